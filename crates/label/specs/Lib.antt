@@ -1,0 +1,7 @@
+pub mod Faults
+pub mod Labels
+pub mod Orders
+pub mod Scans
+pub mod Shown
+pub mod Signs
+pub mod Typed

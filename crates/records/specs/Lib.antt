@@ -1,0 +1,4 @@
+pub mod Faults
+pub mod Halves
+pub mod Files
+pub mod Accepts

@@ -1,0 +1,13 @@
+pub mod Caves
+pub mod Charts
+pub mod Courses
+pub mod Index
+pub mod Listing
+pub mod Ranks
+pub mod Records
+pub mod Stations
+pub mod Trees
+pub mod Turned
+pub mod WalkLaws
+pub mod Walks
+pub mod Ways
