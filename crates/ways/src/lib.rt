@@ -1,16 +1,19 @@
-// Finding stations, climbing, ways and walks on the stations of a plan, by index.
+// Stations, ways and the walk of a plan, on its list of stations: what every call of a plan asks.
+mod asks;
 mod climbs;
 mod courses;
 mod finds;
+mod places;
 mod reads;
 mod walks;
-pub use climbs::meeting_point;
-pub use climbs::station_at;
-pub use climbs::deepest_station;
-pub use courses::write_course;
-pub use finds::find;
-pub use reads::depth_of;
-pub use reads::label_of;
-pub use reads::parent_of;
-pub use walks::first_place;
-pub use walks::write_walk;
+pub use asks::at_depth;
+pub use asks::deepest_above;
+pub use asks::depth;
+pub use asks::has;
+pub use asks::height;
+pub use asks::is_above;
+pub use asks::root;
+pub use asks::way;
+pub use places::entry;
+pub use places::first_place;
+pub use places::walk;

@@ -50,7 +50,7 @@ pub fn write_walk(ps: &[Station], out: &mut [u16; 2047]) -> usize
 }
 
 // The place, counted from 1, of the first entry that is this station.
-pub fn first_place(walk: &[u16], at: u16) -> usize
+pub fn place_of(walk: &[u16], at: u16) -> usize
     requires { ⌜ length (now walk) ≤ 2047 ⌝ }
     ensures { λ r. ⌜ r ≡ firstPlace at (now (walk .entry)) ⌝ }
 {

@@ -1,6 +1,6 @@
 use native.Mathlib.Omega.{arith}
 use Rattle.tree.proofs.Firsts.{place-here, place-next, place-end}
-use Rattle.ways.proofs.walks.first_place.Needs as need
+use Rattle.ways.proofs.walks.place_of.Needs as need
 
 pub returns-then-walk-k : need.returns-then-walk-k
 returns-then-walk-k c = omega (arith, place-here (c .args .at) (c .args .walk .now) (c .loop-k .k) (c .loop-k-test .taken) (c .if-walk-k .taken), c .loop-k .inv)
