@@ -1,0 +1,2 @@
+pub mod Cave
+pub mod Table
