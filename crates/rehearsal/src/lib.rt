@@ -11,3 +11,6 @@ pub fn example_size() -> usize
 {
     6
 }
+
+#[cfg(test)]
+mod tests;
