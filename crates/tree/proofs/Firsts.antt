@@ -14,11 +14,12 @@ use Rattle.std.proofs.shelf.Tests.{cases-lt, cases-eq, eq-eqb, ne-eqb}
 use Rattle.std.proofs.shelf.Elements.{has-append-left, has-append-right, has-push}
 use Rattle.tree.specs.Trees.{Rooted, AboveAt}
 use Rattle.tree.specs.declared.Station.{Station}
+use Rattle.tree.specs.Ways.{On}
 use Rattle.tree.specs.Stations.{parentOf, depthOf, Canonical, rooted}
 use Rattle.tree.specs.Walks.{branches, walkOf, walkFrom, firstPlace}
 use Rattle.tree.proofs.Climbs.{above-level, root-above}
 use Rattle.tree.proofs.Entries.{branch-of}
-use Rattle.tree.proofs.Sizes.{Mem, mem-all, branch-above, shallow}
+use Rattle.tree.proofs.Sizes.{mem-all, branch-above, shallow}
 
 has-first : (x : ℕ) (xs : List ℕ) → Has (x ∷ xs) x
 has-first x xs = has-append-left (x ∷ []) xs x (has-push [] x)
@@ -26,12 +27,12 @@ has-first x xs = has-append-left (x ∷ []) xs x (has-push [] x)
 has-later : (y x : ℕ) (xs : List ℕ) → Has xs x → Has (y ∷ xs) x
 has-later y x xs h = has-append-right (y ∷ []) xs x h
 
-has-joined : (g : ℕ → List ℕ) (o x : ℕ) (js : List ℕ) → Mem o js → Has (g o) x → Has (joined g js) x
+has-joined : (g : ℕ → List ℕ) (o x : ℕ) (js : List ℕ) → On o js → Has (g o) x → Has (joined g js) x
 has-joined g o x [] m h = absurd m
 has-joined g o x (j ∷ js) m h =
     ⊎-elim
     (λ (e : j ≡ o). has-append-left (g j) (joined g js) x (subst (λ (k : ℕ). Has (g k) x) (sym e) h))
-    (λ (t : Mem o js). has-append-right (g j) (joined g js) x (has-joined g o x js t h))
+    (λ (t : On o js). has-append-right (g j) (joined g js) x (has-joined g o x js t h))
     m
 
 module _ {n : ℕ} {up depth : ℕ → ℕ} (r : Rooted n up depth) where

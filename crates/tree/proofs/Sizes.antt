@@ -14,6 +14,7 @@ use Rattle.std.specs.shelf.Lists.{All, kept-by}
 use Rattle.std.proofs.shelf.Tests.{cases-lt, cases-eq, eqb-true, eq-eqb, ne-eqb, le-leb, and-from, and-parts, leb-true}
 use Rattle.std.proofs.shelf.Elements.{all-weaker}
 use Rattle.tree.specs.Trees.{Rooted, climb, AboveAt}
+use Rattle.tree.specs.Ways.{On}
 use Rattle.tree.specs.Walks.{branches, walkOf}
 use Rattle.tree.proofs.Pigeons.{at-most}
 use Rattle.tree.proofs.Climbs.{climb-add, climb-inside, climb-depth, above-self, above-trans, above-up, above-level, above-either, depth-pos, not-root, root-above}
@@ -26,10 +27,6 @@ total f (x ∷ xs) = f x + total f xs
 abbrev pub bit : Bool → ℕ
 bit true = 1
 bit false = 0
-
-abbrev pub Mem : ℕ → List ℕ → Type 0
-Mem o [] = ⊥
-Mem o (x ∷ xs) = (x ≡ o) ⊎ Mem o xs
 
 total-same : (f g : ℕ → ℕ) (xs : List ℕ) → All (λ x. f x ≡ g x) xs → total f xs ≡ total g xs
 total-same f g [] a = refl
@@ -55,7 +52,7 @@ total-none : (p : ℕ → Bool) (xs : List ℕ) → All (λ x. p x ≡ false) xs
 total-none p [] a = refl
 total-none p (x ∷ xs) a = let e = ap bit (a .0) in let m = total-none p xs (a .1) in omega arith
 
-total-one : (p : ℕ → Bool) (o : ℕ) (xs : List ℕ) → Distinct xs → Mem o xs → p o ≡ true → All (λ x. (x ≡ o → ⊥) → p x ≡ false) xs → total (λ x. bit (p x)) xs ≡ 1
+total-one : (p : ℕ → Bool) (o : ℕ) (xs : List ℕ) → Distinct xs → On o xs → p o ≡ true → All (λ x. (x ≡ o → ⊥) → p x ≡ false) xs → total (λ x. bit (p x)) xs ≡ 1
 total-one p o [] d m t a = absurd m
 total-one p o (x ∷ xs) d m t a =
     ⊎-elim
@@ -65,7 +62,7 @@ total-one p o (x ∷ xs) d m t a =
         omega arith)
     (λ (ne : x ≡ o → ⊥).
         let nil = ap bit (a .0 ne) in
-        let ih = total-one p o xs (d .1) (⊎-elim (λ (e : x ≡ o). absurd (ne e)) (λ (h : Mem o xs). h) m) t (a .1) in
+        let ih = total-one p o xs (d .1) (⊎-elim (λ (e : x ≡ o). absurd (ne e)) (λ (h : On o xs). h) m) t (a .1) in
         omega arith)
     (cases-eq x o)
   where
@@ -73,15 +70,15 @@ total-one p o (x ∷ xs) d m t a =
     rest [] b c = tt
     rest (k ∷ ks) b c = (c .0 (b .0), rest ks (b .1) (c .1))
 
-pub mem-all : (P : ℕ → Type 0) (o : ℕ) (xs : List ℕ) → Mem o xs → All P xs → P o
+pub mem-all : (P : ℕ → Type 0) (o : ℕ) (xs : List ℕ) → On o xs → All P xs → P o
 mem-all P o [] m a = absurd m
-mem-all P o (x ∷ xs) m a = ⊎-elim (λ (e : x ≡ o). subst P e (a .0)) (λ (h : Mem o xs). mem-all P o xs h (a .1)) m
+mem-all P o (x ∷ xs) m a = ⊎-elim (λ (e : x ≡ o). subst P e (a .0)) (λ (h : On o xs). mem-all P o xs h (a .1)) m
 
 total-units : (f : ℕ → ℕ) (a n : ℕ) → ((x : ℕ) → x < a + n → f x ≡ 1) → total f (counting a n) ≡ n
 total-units f a zero h = refl
 total-units f a (suc n) h = let e = h a (omega arith) in let m = total-units f (a + 1) n (λ x l. h x (omega arith)) in omega arith
 
-pub kept-mem : (p : ℕ → Bool) (o a n : ℕ) → a ≤ o → o < a + n → p o ≡ true → Mem o (kept-by p (counting a n))
+pub kept-mem : (p : ℕ → Bool) (o a n : ℕ) → a ≤ o → o < a + n → p o ≡ true → On o (kept-by p (counting a n))
 kept-mem p o a zero h l t = absurd (omega arith)
 kept-mem p o a (suc n) h l t =
     ⊎-elim
@@ -89,10 +86,10 @@ kept-mem p o a (suc n) h l t =
     (λ (ne : a ≡ o → ⊥). later (p a) (kept-mem p o (a + 1) n (omega arith) (omega arith) t))
     (cases-eq a o)
   where
-    first : (b : Bool) → b ≡ true → a ≡ o → Mem o (cond b (a ∷ kept-by p (counting (a + 1) n)) (kept-by p (counting (a + 1) n)))
+    first : (b : Bool) → b ≡ true → a ≡ o → On o (cond b (a ∷ kept-by p (counting (a + 1) n)) (kept-by p (counting (a + 1) n)))
     first true e f = inl f
     first false e f = let z : _≡_ {A = ℕ} 0 1 = cc in absurd (omega arith)
-    later : (b : Bool) → Mem o (kept-by p (counting (a + 1) n)) → Mem o (cond b (a ∷ kept-by p (counting (a + 1) n)) (kept-by p (counting (a + 1) n)))
+    later : (b : Bool) → On o (kept-by p (counting (a + 1) n)) → On o (cond b (a ∷ kept-by p (counting (a + 1) n)) (kept-by p (counting (a + 1) n)))
     later true m = inr m
     later false m = m
 
@@ -127,7 +124,7 @@ module _ {n : ℕ} {up depth : ℕ → ℕ} (r : Rooted n up depth) where
   shallow i l = at-most (depth i) n (λ k. climb up k i) (λ k h. climb-inside r k i l) (λ a b ha hb e. omega (arith, climb-depth r a i l ha, climb-depth r b i l hb, ap depth e))
 
   -- the branch of i above x
-  pub branch-above : (i x : ℕ) → i < n → x < n → AboveAt up depth i x → depth i < depth x → (o : ℕ) × (Mem o (branches n up i) × (depth o ≡ depth i + 1) × AboveAt up depth o x)
+  pub branch-above : (i x : ℕ) → i < n → x < n → AboveAt up depth i x → depth i < depth x → (o : ℕ) × (On o (branches n up i) × (depth o ≡ depth i + 1) × AboveAt up depth o x)
   branch-above i x li lx p h =
       let k : ℕ = depth x - (depth i + 1) in
       let o : ℕ = climb up k x in
@@ -175,7 +172,7 @@ module _ {n : ℕ} {up depth : ℕ → ℕ} (r : Rooted n up depth) where
 
   pub below-step : (i : ℕ) → i < n → below n up depth i ≡ 1 + total (below n up depth) (branches n up i)
   below-step i li =
-      let one = total-one (λ x. eqb i x) i (counting 0 n) (subst Distinct (counting-kept 0 n) (kept-apart (λ _. true) 0 n)) (subst (Mem i) (counting-kept 0 n) (kept-mem (λ _. true) i 0 n (omega arith) (omega arith) refl)) (eq-eqb i i refl) (all-weaker (λ x. x < n) (λ x. (x ≡ i → ⊥) → eqb i x ≡ false) (λ x h ne. ne-eqb i x (λ e. ne (sym e))) _ all-stations) in
+      let one = total-one (λ x. eqb i x) i (counting 0 n) (subst Distinct (counting-kept 0 n) (kept-apart (λ _. true) 0 n)) (subst (On i) (counting-kept 0 n) (kept-mem (λ _. true) i 0 n (omega arith) (omega arith) refl)) (eq-eqb i i refl) (all-weaker (λ x. x < n) (λ x. (x ≡ i → ⊥) → eqb i x ≡ false) (λ x h ne. ne-eqb i x (λ e. ne (sym e))) _ all-stations) in
       total-same _ _ (counting 0 n) (all-weaker (λ x. x < n) (λ x. bit (aboveb up depth i x) ≡ bit (eqb i x) + total (λ j. bit (aboveb up depth j x)) (branches n up i)) (λ x h. point i x li h) _ all-stations)
       ∙ total-add (λ x. bit (eqb i x)) (λ x. total (λ j. bit (aboveb up depth j x)) (branches n up i)) (counting 0 n)
       ∙ (let s = total-swap (λ j x. bit (aboveb up depth j x)) (branches n up i) (counting 0 n) in omega arith)
@@ -193,9 +190,9 @@ module _ {n : ℕ} {up depth : ℕ → ℕ} (r : Rooted n up depth) where
   pub below-root : below n up depth 0 ≡ n
   below-root = total-units (λ x. bit (aboveb up depth 0 x)) 0 n (λ x l. ap bit (is-above 0 x (root-above r x (omega arith))))
 
-  total-mem : (f : ℕ → ℕ) (j : ℕ) (xs : List ℕ) → Mem j xs → f j ≤ total f xs
+  total-mem : (f : ℕ → ℕ) (j : ℕ) (xs : List ℕ) → On j xs → f j ≤ total f xs
   total-mem f j [] m = absurd m
-  total-mem f j (x ∷ xs) m = ⊎-elim (λ (e : x ≡ j). omega (arith, ap f e)) (λ (h : Mem j xs). omega (arith, total-mem f j xs h)) m
+  total-mem f j (x ∷ xs) m = ⊎-elim (λ (e : x ≡ j). omega (arith, ap f e)) (λ (h : On j xs). omega (arith, total-mem f j xs h)) m
 
   -- the count of stations still below falls from a station to each of its branches
   pub below-falls : (i j : ℕ) → i < n → 0 < j → j < n → up j ≡ i → below n up depth j < below n up depth i

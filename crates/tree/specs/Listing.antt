@@ -1,5 +1,5 @@
--- ListConstruction as it was published: to list a station, append it; then, for each neighbour in label order that is not yet
--- in the list, list that neighbour and append the station again.
+-- The published procedure: to list a station, append it; then, for each neighbour in label order that is not yet in the list, list
+-- that neighbour and append the station again.
 use mathlib.Core.Bool.{Bool, true, false, cond, not, _&&_, _||_}
 use mathlib.Core.List.{List, [], _∷_, _++_}
 use Prim.Native.Nat.{ℕ, zero, suc, _-_}
