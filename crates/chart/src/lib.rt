@@ -3,4 +3,5 @@
 // of lower labels.
 mod arrange;
 mod turn;
+
 pub use arrange::chart;

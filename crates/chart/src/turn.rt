@@ -6,7 +6,7 @@ ghost use Rattle.tree.specs.Records.{Earlier};
 ghost use Rattle.tree.specs.Turned.{Unset, Turned, Settled};
 
 // The way from `root` to record 0 reversed: `up` and `depth` of the stations on it.
-pub fn reverse(joined: &[u16], root: u16, up: &mut [u16], depth: &mut [u16])
+pub(crate) fn reverse(joined: &[u16], root: u16, up: &mut [u16], depth: &mut [u16])
     requires few { ⌜ length (now joined) ≤ 1024 ⌝ ∗ ⌜ root < length (now joined) ⌝ }
     requires earlier { ⌜ Earlier (now joined) ⌝ }
     requires long { ⌜ length (now joined) ≤ length (now up) ⌝ ∗ ⌜ length (now joined) ≤ length (now depth) ⌝ }
@@ -27,7 +27,7 @@ pub fn reverse(joined: &[u16], root: u16, up: &mut [u16], depth: &mut [u16])
 }
 
 // The other stations: each is joined to an earlier one, which has its parent by then.
-pub fn settle(joined: &[u16], root: u16, up: &mut [u16], depth: &mut [u16])
+pub(crate) fn settle(joined: &[u16], root: u16, up: &mut [u16], depth: &mut [u16])
     requires few { ⌜ length (now joined) ≤ 1024 ⌝ ∗ ⌜ root < length (now joined) ⌝ }
     requires earlier { ⌜ Earlier (now joined) ⌝ }
     requires long { ⌜ length (now joined) ≤ length (now up) ⌝ ∗ ⌜ length (now joined) ≤ length (now depth) ⌝ }

@@ -33,10 +33,13 @@ loaded-reads file before after r = go (readFile file) refl
   where
     same : (rs qs : Records) → readFile file ≡ Ok rs → readFile file ≡ Ok qs → rs ≡ qs
     same rs qs p q = cc
+
     never : (f : PlanFault) (qs : Records) → readFile file ≡ Err f → readFile file ≡ Ok qs → ⊥
     never f qs p q = let z : _≡_ {A = ℕ} 0 1 = cc in omega arith
+
     clash : (f : PlanFault) → r ≡ Err f → r ≡ Ok tt → ⊥
     clash f p q = let z : _≡_ {A = ℕ} 0 1 = cc in omega arith
+
     go : (x : Result Records PlanFault) → readFile file ≡ x → Loaded x before after r → Reads file (stationsOf after) r
     go (Ok rs) e l =
         record {

@@ -92,7 +92,7 @@ fn judge(
 }
 
 // The record that starts at byte `at` of the file, after records with those labels.
-pub fn read_record(file: &[u8], at: usize, labels: &[Label]) -> Result<Record, PlanFault>
+pub(crate) fn read_record(file: &[u8], at: usize, labels: &[Label]) -> Result<Record, PlanFault>
     requires within { ⌜ at + 16 ≤ length (now file) ⌝ }
     requires few { ⌜ length (now labels) ≤ 1024 ⌝ }
     ensures { λ r. ⌜ r ≡ recordAt (now (file .entry)) at (now (labels .entry)) ⌝ }

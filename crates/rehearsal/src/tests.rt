@@ -84,12 +84,42 @@ fn one_cave_from_two_files(rt: LibcRuntime) -> Result<(), Fail> {
     let mut file = [0u8; 512];
     cave(&mut file);
     check(number_of(plan.read(&file)) == 0)?;
-    is_walk(&plan, &[b"A9", b"ENT", b"C1", b"C2", b"C1", b"C3", b"D1", b"C3", b"C1", b"ENT", b"A9"])?;
+    is_walk(
+        &plan,
+        &[
+            b"A9",
+            b"ENT",
+            b"C1",
+            b"C2",
+            b"C1",
+            b"C3",
+            b"D1",
+            b"C3",
+            b"C1",
+            b"ENT",
+            b"A9",
+        ],
+    )?;
     cave_again(&mut file);
     check(number_of(plan.read(&file)) == 0)?;
     check(plan.height() == 5)?;
     file[100] = 1;
     check(number_of(plan.read(&file)) == 2)?;
     check(number_of(plan.read(&file[0..511])) == 1)?;
-    is_walk(&plan, &[b"A9", b"ENT", b"C1", b"C2", b"C1", b"C3", b"D1", b"C3", b"C1", b"ENT", b"A9"])
+    is_walk(
+        &plan,
+        &[
+            b"A9",
+            b"ENT",
+            b"C1",
+            b"C2",
+            b"C1",
+            b"C3",
+            b"D1",
+            b"C3",
+            b"C1",
+            b"ENT",
+            b"A9",
+        ],
+    )
 }

@@ -42,11 +42,11 @@ module _ {n : ℕ} {up depth : ℕ → ℕ} (r : Rooted n up depth) where
   walk-has (suc f) i x li lx h p =
       ⊎-elim
       (λ (lt : depth i < depth x).
-          let o = branch-above r i x li lx p lt in
-          let b = mem-all (λ j. (0 < j) × (j < n) × (up j ≡ i)) (o .0) (branches n up i) (o .1 .0) (branch-of r i) in
-          has-later i x (joined (λ j. walkOf n up f j ++ i ∷ []) (branches n up i))
-            (has-joined (λ j. walkOf n up f j ++ i ∷ []) (o .0) x (branches n up i) (o .1 .0)
-              (has-append-left (walkOf n up f (o .0)) (i ∷ []) x (walk-has f (o .0) x (b .1) lx (omega (arith, o .1 .1)) (o .1 .2)))))
+      let o = branch-above r i x li lx p lt in
+      let b = mem-all (λ j. (0 < j) × (j < n) × (up j ≡ i)) (o .0) (branches n up i) (o .1 .0) (branch-of r i) in
+      has-later i x (joined (λ j. walkOf n up f j ++ i ∷ []) (branches n up i))
+      (has-joined (λ j. walkOf n up f j ++ i ∷ []) (o .0) x (branches n up i) (o .1 .0)
+      (has-append-left (walkOf n up f (o .0)) (i ∷ []) x (walk-has f (o .0) x (b .1) lx (omega (arith, o .1 .1)) (o .1 .2)))))
       (λ (ge : depth x ≤ depth i). subst (Has (i ∷ joined (λ j. walkOf n up f j ++ i ∷ []) (branches n up i))) (above-level r i x p ge) (has-first i _))
       (cases-lt (depth i) (depth x))
 
@@ -59,18 +59,19 @@ first-at x [] k l e = absurd (omega arith)
 first-at x (w ∷ ws) k l e =
     ⊎-elim
     (λ (q : w ≡ x).
-        let one : firstPlace x (w ∷ ws) ≡ 1 = ap (λ (b : Bool). cond b 1 (firstPlace x ws + 1)) (eq-eqb w x q) in
-        (omega arith, omega arith, ap (λ (i : ℕ). getD (w ∷ ws) (i - 1) 0) one ∙ q, λ j h f. omega arith))
+    let one : firstPlace x (w ∷ ws) ≡ 1 = ap (λ (b : Bool). cond b 1 (firstPlace x ws + 1)) (eq-eqb w x q) in
+    (omega arith, omega arith, ap (λ (i : ℕ). getD (w ∷ ws) (i - 1) 0) one ∙ q, λ j h f. omega arith))
     (λ (ne : w ≡ x → ⊥).
-        let ih = later k l e ne (λ j h f. first-at x ws j h f) in
-        let next : firstPlace x (w ∷ ws) ≡ firstPlace x ws + 1 = ap (λ (b : Bool). cond b 1 (firstPlace x ws + 1)) (ne-eqb w x ne) in
-        let at : firstPlace x (w ∷ ws) - 1 ≡ suc (firstPlace x ws - 1) = omega (arith, ih .0) in
-        (omega arith, omega (arith, ih .1), ap (λ (i : ℕ). getD (w ∷ ws) i 0) at ∙ ih .2, λ j h f. before ne (ih .3) next j h f))
+    let ih = later k l e ne (λ j h f. first-at x ws j h f) in
+    let next : firstPlace x (w ∷ ws) ≡ firstPlace x ws + 1 = ap (λ (b : Bool). cond b 1 (firstPlace x ws + 1)) (ne-eqb w x ne) in
+    let at : firstPlace x (w ∷ ws) - 1 ≡ suc (firstPlace x ws - 1) = omega (arith, ih .0) in
+    (omega arith, omega (arith, ih .1), ap (λ (i : ℕ). getD (w ∷ ws) i 0) at ∙ ih .2, λ j h f. before ne (ih .3) next j h f))
     (cases-eq w x)
   where
     later : (k : ℕ) → k < length (w ∷ ws) → getD (w ∷ ws) k 0 ≡ x → (w ≡ x → ⊥) → ((j : ℕ) → j < length ws → getD ws j 0 ≡ x → First x ws) → First x ws
     later zero l e ne rec = absurd (ne e)
     later (suc j) l e ne rec = rec j (omega arith) e
+
     before : (w ≡ x → ⊥) → ((k : ℕ) → k + 1 < firstPlace x ws → getD ws k 0 ≡ x → ⊥) → firstPlace x (w ∷ ws) ≡ firstPlace x ws + 1 → (j : ℕ) → j + 1 < firstPlace x (w ∷ ws) → getD (w ∷ ws) j 0 ≡ x → ⊥
     before ne old next zero h f = ne f
     before ne old next (suc j) h f = old j (omega arith) f

@@ -37,6 +37,7 @@ sought (s ∷ ps) a k = go (eqb (keyOf (s .label)) (keyOf a)) refl (sought ps a 
         none : (i : ℕ) → i < length (s ∷ ps) → stationLabel (s ∷ ps) i ≡ a → ⊥
         none zero l e = ne e
         none (suc i) l e = f i (omega arith) e
+
     go : (b : Bool) → eqb (keyOf (s .label)) (keyOf a) ≡ b → Sought ps a (k + 1) (seek a (k + 1) ps) → Sought (s ∷ ps) a k (cond b (Some k) (seek a (k + 1) ps))
     go true t f =
         let e : k - k ≡ 0 = omega arith in

@@ -91,11 +91,11 @@ module _ (ps : List Station) (h : Canonical ps) where
       let a : ℕ = climb (parentOf ps) (depthOf ps v - k) v in
       ⊎-elim
       (λ (short : depthOf ps v < k).
-          let z : depthOf ps v - k ≡ 0 = omega arith in
-          inr (ap (λ (m : ℕ). stationLabel ps (climb (parentOf ps) m v)) z, (depthOf ps v, (depth-is v l, short))))
+      let z : depthOf ps v - k ≡ 0 = omega arith in
+      inr (ap (λ (m : ℕ). stationLabel ps (climb (parentOf ps) m v)) z, (depthOf ps v, (depth-is v l, short))))
       (λ (long : k ≤ depthOf ps v).
-          let la = climb-inside r (depthOf ps v - k) v l in
-          let d = climb-depth r (depthOf ps v - k) v l (omega arith) in
-          let e : depthOf ps a ≡ k = omega arith in
-          inl (above-is a v la l .0 (climb-above r (depthOf ps v - k) v l (omega arith)), subst (Depth ps (stationLabel ps a)) e (depth-is a la)))
+      let la = climb-inside r (depthOf ps v - k) v l in
+      let d = climb-depth r (depthOf ps v - k) v l (omega arith) in
+      let e : depthOf ps a ≡ k = omega arith in
+      inl (above-is a v la l .0 (climb-above r (depthOf ps v - k) v l (omega arith)), subst (Depth ps (stationLabel ps a)) e (depth-is a la)))
       (cases-lt (depthOf ps v) k)

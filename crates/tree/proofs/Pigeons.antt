@@ -22,40 +22,40 @@ each (suc n) f into once x l =
     let off : (k : ℕ) → (f k ≡ n → ⊥) → g k ≡ f k = λ k e. cond-false (eqb (f k) n) m (f k) (ne-eqb (f k) n e) in
     let apart : (k : ℕ) → k < n → f k ≡ m → ⊥ = λ k h e. omega (arith, once k n (omega arith) (omega arith) e) in
     let into′ : Into g n n = λ k h.
-          ⊎-elim
-          (λ (e : f k ≡ n). omega (arith, at k e, into n (omega arith), apart k h))
-          (λ (e : f k ≡ n → ⊥). omega (arith, off k e, into k (omega arith)))
-          (cases-eq (f k) n) in
+    ⊎-elim
+    (λ (e : f k ≡ n). omega (arith, at k e, into n (omega arith), apart k h))
+    (λ (e : f k ≡ n → ⊥). omega (arith, off k e, into k (omega arith)))
+    (cases-eq (f k) n) in
     let once′ : Once g n = λ i j hi hj e.
-          ⊎-elim
-          (λ (p : f i ≡ n).
-              ⊎-elim
-              (λ (q : f j ≡ n). once i j (omega arith) (omega arith) (p ∙ sym q))
-              (λ (q : f j ≡ n → ⊥). absurd (apart j hj (sym (off j q) ∙ sym e ∙ at i p)))
-              (cases-eq (f j) n))
-          (λ (p : f i ≡ n → ⊥).
-              ⊎-elim
-              (λ (q : f j ≡ n). absurd (apart i hi (sym (off i p) ∙ e ∙ at j q)))
-              (λ (q : f j ≡ n → ⊥). once i j (omega arith) (omega arith) (sym (off i p) ∙ e ∙ off j q))
-              (cases-eq (f j) n))
-          (cases-eq (f i) n) in
+    ⊎-elim
+    (λ (p : f i ≡ n).
+    ⊎-elim
+    (λ (q : f j ≡ n). once i j (omega arith) (omega arith) (p ∙ sym q))
+    (λ (q : f j ≡ n → ⊥). absurd (apart j hj (sym (off j q) ∙ sym e ∙ at i p)))
+    (cases-eq (f j) n))
+    (λ (p : f i ≡ n → ⊥).
+    ⊎-elim
+    (λ (q : f j ≡ n). absurd (apart i hi (sym (off i p) ∙ e ∙ at j q)))
+    (λ (q : f j ≡ n → ⊥). once i j (omega arith) (omega arith) (sym (off i p) ∙ e ∙ off j q))
+    (cases-eq (f j) n))
+    (cases-eq (f i) n) in
     ⊎-elim
     (λ (here : m ≡ x). (n, (omega arith, here)))
     (λ (ne : m ≡ x → ⊥).
-        ⊎-elim
-        (λ (low : x < n).
-            let k = each n g into′ once′ x low in
-            ⊎-elim
-            (λ (e : f (k .0) ≡ n). absurd (ne (sym (at (k .0) e) ∙ k .1 .1)))
-            (λ (e : f (k .0) ≡ n → ⊥). (k .0, (omega arith, sym (off (k .0) e) ∙ k .1 .1)))
-            (cases-eq (f (k .0)) n))
-        (λ (high : n ≤ x).
-            let k = each n g into′ once′ m (omega (arith, into n (omega arith))) in
-            ⊎-elim
-            (λ (e : f (k .0) ≡ n). (k .0, (omega arith, omega arith)))
-            (λ (e : f (k .0) ≡ n → ⊥). absurd (apart (k .0) (k .1 .0) (sym (off (k .0) e) ∙ k .1 .1)))
-            (cases-eq (f (k .0)) n))
-        (cases-lt x n))
+    ⊎-elim
+    (λ (low : x < n).
+    let k = each n g into′ once′ x low in
+    ⊎-elim
+    (λ (e : f (k .0) ≡ n). absurd (ne (sym (at (k .0) e) ∙ k .1 .1)))
+    (λ (e : f (k .0) ≡ n → ⊥). (k .0, (omega arith, sym (off (k .0) e) ∙ k .1 .1)))
+    (cases-eq (f (k .0)) n))
+    (λ (high : n ≤ x).
+    let k = each n g into′ once′ m (omega (arith, into n (omega arith))) in
+    ⊎-elim
+    (λ (e : f (k .0) ≡ n). (k .0, (omega arith, omega arith)))
+    (λ (e : f (k .0) ≡ n → ⊥). absurd (apart (k .0) (k .1 .0) (sym (off (k .0) e) ∙ k .1 .1)))
+    (cases-eq (f (k .0)) n))
+    (cases-lt x n))
     (cases-eq m x)
 
 -- what maps the numbers below m to ones below n and takes no value twice: there are no more of them
@@ -63,7 +63,7 @@ pub at-most : (m n : ℕ) (f : ℕ → ℕ) → Into f m n → Once f m → m �
 at-most m n f into once =
     ⊎-elim
     (λ (more : n < m).
-        let k = each n f (λ i h. into i (omega arith)) (λ i j hi hj e. once i j (omega arith) (omega arith) e) (f n) (into n more) in
-        absurd (omega (arith, once (k .0) n (omega arith) more (k .1 .1))))
+    let k = each n f (λ i h. into i (omega arith)) (λ i j hi hj e. once i j (omega arith) (omega arith) e) (f n) (into n more) in
+    absurd (omega (arith, once (k .0) n (omega arith) more (k .1 .1))))
     (λ (le : m ≤ n). le)
     (cases-lt n m)

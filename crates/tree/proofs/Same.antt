@@ -30,8 +30,8 @@ module _ {n : ℕ} {up depth up′ depth′ : ℕ → ℕ} (r : Rooted n up dept
       ⊎-elim
       (λ (a : (0 < i) × (i < n) × (up′ i ≡ up i)). sym (a .2))
       (λ (a : (0 < up i) × (up i < n) × (up′ (up i) ≡ i)).
-          let back = same-up d (up i) (omega arith) (a .0) (a .1) in
-          absurd (omega (arith, r .deeper (up i) (a .0) (a .1), ap depth (back ∙ a .2))))
+      let back = same-up d (up i) (omega arith) (a .0) (a .1) in
+      absurd (omega (arith, r .deeper (up i) (a .0) (a .1), ap depth (back ∙ a .2))))
       (legs (up i) i (inl (p, l, refl)))
 
   pub same-depth : (d i : ℕ) → depth i ≤ d → i < n → depth i ≡ depth′ i
@@ -40,9 +40,9 @@ module _ {n : ℕ} {up depth up′ depth′ : ℕ → ℕ} (r : Rooted n up dept
       ⊎-elim
       (λ (e : i ≡ 0). ap depth e ∙ r .top ∙ sym (r′ .top) ∙ sym (ap depth′ e))
       (λ (ne : i ≡ 0 → ⊥).
-          let p : 0 < i = omega arith in
-          let less = r .deeper i p l in
-          omega (arith, r′ .deeper i p l, same-depth d (up i) (omega arith) (r .inside i l), ap depth′ (same-up (suc d) i h p l)))
+      let p : 0 < i = omega arith in
+      let less = r .deeper i p l in
+      omega (arith, r′ .deeper i p l, same-depth d (up i) (omega arith) (r .inside i l), ap depth′ (same-up (suc d) i h p l)))
       (cases-eq i 0)
 
 -- labels of places in order
@@ -97,11 +97,11 @@ module _ (ps qs : List Station) (cp : Canonical ps) (cq : Canonical qs) (alike :
       let lu : parentOf qs i < length ps = omega (arith, cq .inside i (g .1 .1)) in
       ⊎-elim
       (λ (e : (stationLabel qs i ≡ stationLabel ps y) × (stationLabel qs (parentOf qs i) ≡ stationLabel ps x)).
-          let at : i ≡ y = place i y li l (e .0) in
-          inl (p, l, sym (ap (parentOf qs) at) ∙ place (parentOf qs i) x lu lx (e .1)))
+      let at : i ≡ y = place i y li l (e .0) in
+      inl (p, l, sym (ap (parentOf qs) at) ∙ place (parentOf qs i) x lu lx (e .1)))
       (λ (e : (stationLabel qs i ≡ stationLabel ps x) × (stationLabel qs (parentOf qs i) ≡ stationLabel ps y)).
-          let at : i ≡ x = place i x li lx (e .0) in
-          inr (subst (λ (z : ℕ). 0 < z) at (g .1 .0), lx, sym (ap (parentOf qs) at) ∙ place (parentOf qs i) y lu l (e .1)))
+      let at : i ≡ x = place i x li lx (e .0) in
+      inr (subst (λ (z : ℕ). 0 < z) at (g .1 .0), lx, sym (ap (parentOf qs) at) ∙ place (parentOf qs i) y lu l (e .1)))
       (g .1 .2)
 
   legs-kept : (x y : ℕ) → LegAt (length ps) (parentOf ps) x y → LegAt (length ps) (parentOf qs) x y
@@ -109,10 +109,10 @@ module _ (ps qs : List Station) (cp : Canonical ps) (cq : Canonical qs) (alike :
       ⊎-elim
       (λ (a : (0 < y) × (y < length ps) × (parentOf ps y ≡ x)). leg-kept x y (a .0) (a .1) (a .2))
       (λ (a : (0 < x) × (x < length ps) × (parentOf ps x ≡ y)).
-          ⊎-elim
-          (λ (b : (0 < x) × (x < length ps) × (parentOf qs x ≡ y)). inr b)
-          (λ (b : (0 < y) × (y < length ps) × (parentOf qs y ≡ x)). inl b)
-          (leg-kept y x (a .0) (a .1) (a .2)))
+      ⊎-elim
+      (λ (b : (0 < x) × (x < length ps) × (parentOf qs x ≡ y)). inr b)
+      (λ (b : (0 < y) × (y < length ps) × (parentOf qs y ≡ x)). inl b)
+      (leg-kept y x (a .0) (a .1) (a .2)))
       leg
 
   other : Rooted (length ps) (parentOf qs) (depthOf qs)

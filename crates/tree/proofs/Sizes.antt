@@ -57,13 +57,13 @@ total-one p o [] d m t a = absurd m
 total-one p o (x ∷ xs) d m t a =
     ⊎-elim
     (λ (e : x ≡ o).
-        let one = ap bit (ap p e ∙ t) in
-        let none = total-none p xs (rest xs (subst (λ (y : ℕ). All (λ z. z ≡ y → ⊥) xs) e (d .0)) (a .1)) in
-        omega arith)
+    let one = ap bit (ap p e ∙ t) in
+    let none = total-none p xs (rest xs (subst (λ (y : ℕ). All (λ z. z ≡ y → ⊥) xs) e (d .0)) (a .1)) in
+    omega arith)
     (λ (ne : x ≡ o → ⊥).
-        let nil = ap bit (a .0 ne) in
-        let ih = total-one p o xs (d .1) (⊎-elim (λ (e : x ≡ o). absurd (ne e)) (λ (h : On o xs). h) m) t (a .1) in
-        omega arith)
+    let nil = ap bit (a .0 ne) in
+    let ih = total-one p o xs (d .1) (⊎-elim (λ (e : x ≡ o). absurd (ne e)) (λ (h : On o xs). h) m) t (a .1) in
+    omega arith)
     (cases-eq x o)
   where
     rest : (ks : List ℕ) → All (λ z. z ≡ o → ⊥) ks → All (λ z. (z ≡ o → ⊥) → p z ≡ false) ks → All (λ z. p z ≡ false) ks
@@ -89,6 +89,7 @@ kept-mem p o a (suc n) h l t =
     first : (b : Bool) → b ≡ true → a ≡ o → On o (cond b (a ∷ kept-by p (counting (a + 1) n)) (kept-by p (counting (a + 1) n)))
     first true e f = inl f
     first false e f = let z : _≡_ {A = ℕ} 0 1 = cc in absurd (omega arith)
+
     later : (b : Bool) → On o (kept-by p (counting (a + 1) n)) → On o (cond b (a ∷ kept-by p (counting (a + 1) n)) (kept-by p (counting (a + 1) n)))
     later true m = inr m
     later false m = m
@@ -141,30 +142,30 @@ module _ {n : ℕ} {up depth : ℕ → ℕ} (r : Rooted n up depth) where
   point i x li lx =
       ⊎-elim
       (λ (e : i ≡ x).
-          let a = ap bit (is-above i x (subst (AboveAt up depth i) e (above-self r i))) in
-          let b = ap bit (eq-eqb i x e) in
-          let z = total-none (λ j. aboveb up depth j x) (branches n up i) (all-weaker (λ j. (0 < j) × (j < n) × (up j ≡ i)) (λ j. aboveb up depth j x ≡ false) (λ j h. not-above j x (λ p. omega (arith, r .deeper j (h .0) (h .1), ap depth (h .2), ap depth e))) _ (branch-of r i)) in
-          omega arith)
+      let a = ap bit (is-above i x (subst (AboveAt up depth i) e (above-self r i))) in
+      let b = ap bit (eq-eqb i x e) in
+      let z = total-none (λ j. aboveb up depth j x) (branches n up i) (all-weaker (λ j. (0 < j) × (j < n) × (up j ≡ i)) (λ j. aboveb up depth j x ≡ false) (λ j h. not-above j x (λ p. omega (arith, r .deeper j (h .0) (h .1), ap depth (h .2), ap depth e))) _ (branch-of r i)) in
+      omega arith)
       (λ (ne : i ≡ x → ⊥).
-          let b = ap bit (ne-eqb i x ne) in
-          ⊎-elim
-          (λ (p : AboveAt up depth i x).
-              let a = ap bit (is-above i x p) in
-              let deep : depth i < depth x = ⊎-elim (λ (q : depth i < depth x). q) (λ (q : depth x ≤ depth i). absurd (ne (above-level r i x p q))) (cases-lt (depth i) (depth x)) in
-              let f = branch-above i x li lx p deep in
-              let z = total-one (λ j. aboveb up depth j x) (f .0) (branches n up i) (kept-apart (λ j. eqb (up j) i) 1 (n - 1)) (f .1 .0) (is-above (f .0) x (f .1 .2))
-                    (all-weaker (λ j. (0 < j) × (j < n) × (up j ≡ i)) (λ j. (j ≡ f .0 → ⊥) → aboveb up depth j x ≡ false)
-                      (λ j h no′. not-above j x (λ q.
-                        let dj = r .deeper j (h .0) (h .1) in
-                        let di = ap depth (h .2) in
-                        let s : depth x - depth j ≡ depth x - depth (f .0) = omega (arith, f .1 .1) in
-                        no′ (sym (q .1) ∙ ap (λ (m : ℕ). climb up m x) s ∙ f .1 .2 .1))) _ (branch-of r i)) in
-              omega arith)
-          (λ (q : AboveAt up depth i x → ⊥).
-              let a = ap bit (not-above i x q) in
-              let z = total-none (λ j. aboveb up depth j x) (branches n up i) (all-weaker (λ j. (0 < j) × (j < n) × (up j ≡ i)) (λ j. aboveb up depth j x ≡ false) (λ j h. not-above j x (λ p. q (above-trans r i j x (subst (λ (y : ℕ). AboveAt up depth y j) (h .2) (above-up r j (h .0) (h .1))) p))) _ (branch-of r i)) in
-              omega arith)
-          (above-either r i x))
+      let b = ap bit (ne-eqb i x ne) in
+      ⊎-elim
+      (λ (p : AboveAt up depth i x).
+      let a = ap bit (is-above i x p) in
+      let deep : depth i < depth x = ⊎-elim (λ (q : depth i < depth x). q) (λ (q : depth x ≤ depth i). absurd (ne (above-level r i x p q))) (cases-lt (depth i) (depth x)) in
+      let f = branch-above i x li lx p deep in
+      let z = total-one (λ j. aboveb up depth j x) (f .0) (branches n up i) (kept-apart (λ j. eqb (up j) i) 1 (n - 1)) (f .1 .0) (is-above (f .0) x (f .1 .2))
+      (all-weaker (λ j. (0 < j) × (j < n) × (up j ≡ i)) (λ j. (j ≡ f .0 → ⊥) → aboveb up depth j x ≡ false)
+      (λ j h no′. not-above j x (λ q.
+      let dj = r .deeper j (h .0) (h .1) in
+      let di = ap depth (h .2) in
+      let s : depth x - depth j ≡ depth x - depth (f .0) = omega (arith, f .1 .1) in
+      no′ (sym (q .1) ∙ ap (λ (m : ℕ). climb up m x) s ∙ f .1 .2 .1))) _ (branch-of r i)) in
+      omega arith)
+      (λ (q : AboveAt up depth i x → ⊥).
+      let a = ap bit (not-above i x q) in
+      let z = total-none (λ j. aboveb up depth j x) (branches n up i) (all-weaker (λ j. (0 < j) × (j < n) × (up j ≡ i)) (λ j. aboveb up depth j x ≡ false) (λ j h. not-above j x (λ p. q (above-trans r i j x (subst (λ (y : ℕ). AboveAt up depth y j) (h .2) (above-up r j (h .0) (h .1))) p))) _ (branch-of r i)) in
+      omega arith)
+      (above-either r i x))
       (cases-eq i x)
 
   all-stations : All (λ x. x < n) (counting 0 n)
@@ -183,8 +184,8 @@ module _ {n : ℕ} {up depth : ℕ → ℕ} (r : Rooted n up depth) where
       omega (arith, below-step i l, total-zero (branches n up i))
   walk-size (suc f) i l h =
       let each = total-same (λ j. length (walkOf n up f j ++ i ∷ [])) (λ j. 2 * below n up depth j) (branches n up i)
-            (all-weaker (λ j. (0 < j) × (j < n) × (up j ≡ i)) (λ j. length (walkOf n up f j ++ i ∷ []) ≡ 2 * below n up depth j)
-              (λ j b. length-append (walkOf n up f j) (i ∷ []) ∙ walk-size f j (b .1) (omega (arith, r .deeper j (b .0) (b .1), ap depth (b .2)))) _ (branch-of r i)) in
+      (all-weaker (λ j. (0 < j) × (j < n) × (up j ≡ i)) (λ j. length (walkOf n up f j ++ i ∷ []) ≡ 2 * below n up depth j)
+      (λ j b. length-append (walkOf n up f j) (i ∷ []) ∙ walk-size f j (b .1) (omega (arith, r .deeper j (b .0) (b .1), ap depth (b .2)))) _ (branch-of r i)) in
       omega (arith, below-step i l, each, length-joined (λ j. walkOf n up f j ++ i ∷ []) (branches n up i), total-double (below n up depth) (branches n up i))
 
   pub below-root : below n up depth 0 ≡ n

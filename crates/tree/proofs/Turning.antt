@@ -52,7 +52,7 @@ module _ (js : List ℕ) (root : ℕ) (ups ds : List ℕ) (lu : length js ≤ le
         linked = λ x lx p ne.
             ⊎-elim
             (λ (q : x ≡ nx). subst (Linked js (set ups nx cur) (set ds nx (level + 1))) (sym q)
-              (let ec = ap (λ (i : ℕ). getD (set ds nx (level + 1)) i 0) du in (omega arith, omega arith, omega arith, inr (omega arith, ap (λ (i : ℕ). getD js i 0) du))))
+            (let ec = ap (λ (i : ℕ). getD (set ds nx (level + 1)) i 0) du in (omega arith, omega arith, omega arith, inr (omega arith, ap (λ (i : ℕ). getD js i 0) du))))
             (λ (q : x ≡ nx → ⊥). kept js ups ds nx cur (level + 1) x none q (t .linked x lx (omega (arith, od x q)) ne))
             (cases-eq x nx);
         turned = λ k h lk p.
@@ -60,13 +60,13 @@ module _ (js : List ℕ) (root : ℕ) (ups ds : List ℕ) (lu : length js ≤ le
             ⊎-elim
             (λ (q : k ≡ cur). subst (λ (i : ℕ). (0 < getD (set ds nx (level + 1)) (getD js i 0) 0) × (getD (set ups nx cur) (getD js i 0) 0 ≡ i)) (sym q) (omega arith, du))
             (λ (q : k ≡ cur → ⊥).
-                ⊎-elim
-                (λ (a : k < cur). absurd (omega (arith, t .later k a)))
-                (λ (a : cur ≤ k).
-                    let old = t .turned k (omega arith) lk (omega arith) in
-                    let ne : getD js k 0 ≡ nx → ⊥ = λ z. omega (arith, old .0, ap (λ (i : ℕ). getD ds i 0) z) in
-                    rw (ou (getD js k 0) ne, od (getD js k 0) ne) old)
-                (cases-lt k cur))
+            ⊎-elim
+            (λ (a : k < cur). absurd (omega (arith, t .later k a)))
+            (λ (a : cur ≤ k).
+            let old = t .turned k (omega arith) lk (omega arith) in
+            let ne : getD js k 0 ≡ nx → ⊥ = λ z. omega (arith, old .0, ap (λ (i : ℕ). getD ds i 0) z) in
+            rw (ou (getD js k 0) ne, od (getD js k 0) ne) old)
+            (cases-lt k cur))
             (cases-eq k cur);
       }
 
@@ -88,19 +88,19 @@ module _ (js : List ℕ) (root : ℕ) (ups ds : List ℕ) (lu : length js ≤ le
         linked = λ x lx p ne.
             ⊎-elim
             (λ (q : x ≡ k). subst (Linked js (set ups k nx) (set ds k (level + 1))) (sym q)
-              (let en = ap (λ (i : ℕ). getD (set ds k (level + 1)) i 0) du in (omega arith, omega arith, omega arith, inl (some, du))))
+            (let en = ap (λ (i : ℕ). getD (set ds k (level + 1)) i 0) du in (omega arith, omega arith, omega arith, inl (some, du))))
             (λ (q : x ≡ k → ⊥). kept js ups ds k nx (level + 1) x none q (s .linked x lx (omega (arith, od x q)) ne))
             (cases-eq x k);
         legs = λ x h lx p.
             ⊎-elim
             (λ (q : x ≡ k). inr (subst (λ (i : ℕ). getD (set ups k nx) i 0 ≡ getD js i 0) (sym q) du))
             (λ (q : x ≡ k → ⊥).
-                ⊎-elim
-                (λ (a : (0 < getD ds (getD js x 0) 0) × (getD ups (getD js x 0) 0 ≡ x)).
-                    let ne : getD js x 0 ≡ k → ⊥ = λ z. omega (arith, a .0, ap (λ (i : ℕ). getD ds i 0) z) in
-                    inl (rw (ou (getD js x 0) ne, od (getD js x 0) ne) a))
-                (λ (a : getD ups x 0 ≡ getD js x 0). inr (ou x q ∙ a))
-                (s .legs x h lx (omega (arith, od x q))))
+            ⊎-elim
+            (λ (a : (0 < getD ds (getD js x 0) 0) × (getD ups (getD js x 0) 0 ≡ x)).
+            let ne : getD js x 0 ≡ k → ⊥ = λ z. omega (arith, a .0, ap (λ (i : ℕ). getD ds i 0) z) in
+            inl (rw (ou (getD js x 0) ne, od (getD js x 0) ne) a))
+            (λ (a : getD ups x 0 ≡ getD js x 0). inr (ou x q ∙ a))
+            (s .legs x h lx (omega (arith, od x q))))
             (cases-eq x k);
       }
 

@@ -39,9 +39,9 @@ module _ (ps : List Station) (lawful : Canonical ps) where
     where
       go : (f : ℕ) → length ps - depthOf ps i ≡ f → walkOf (length ps) (parentOf ps) f i ≡ i ∷ joined (λ j. walkOf (length ps) (parentOf ps) (length ps - depthOf ps j) j ++ i ∷ []) (branches (length ps) (parentOf ps) i)
       go zero e = ap (λ (xs : List ℕ). i ∷ xs) (joined-none _ (branches (length ps) (parentOf ps) i)
-        (all-weaker (λ j. (0 < j) × (j < length ps) × (parentOf ps j ≡ i)) (λ j. ⊥) (λ j h. omega (arith, rooted ps lawful .deeper j (h .0) (h .1), shallow (rooted ps lawful) j (h .1), ap (depthOf ps) (h .2))) _ (branch-of (rooted ps lawful) i)))
+          (all-weaker (λ j. (0 < j) × (j < length ps) × (parentOf ps j ≡ i)) (λ j. ⊥) (λ j h. omega (arith, rooted ps lawful .deeper j (h .0) (h .1), shallow (rooted ps lawful) j (h .1), ap (depthOf ps) (h .2))) _ (branch-of (rooted ps lawful) i)))
       go (suc f) e = ap (λ (xs : List ℕ). i ∷ xs) (joined-same _ _ (branches (length ps) (parentOf ps) i)
-        (all-weaker (λ j. (0 < j) × (j < length ps) × (parentOf ps j ≡ i)) (λ j. walkOf (length ps) (parentOf ps) f j ++ i ∷ [] ≡ walkOf (length ps) (parentOf ps) (length ps - depthOf ps j) j ++ i ∷ [])
+          (all-weaker (λ j. (0 < j) × (j < length ps) × (parentOf ps j ≡ i)) (λ j. walkOf (length ps) (parentOf ps) f j ++ i ∷ [] ≡ walkOf (length ps) (parentOf ps) (length ps - depthOf ps j) j ++ i ∷ [])
           (λ j h. let s : f ≡ length ps - depthOf ps j = omega (arith, rooted ps lawful .deeper j (h .0) (h .1), ap (depthOf ps) (h .2)) in ap (λ (k : ℕ). walkOf (length ps) (parentOf ps) k j ++ i ∷ []) s) _ (branch-of (rooted ps lawful) i)))
 
   pub walk-length : (i : ℕ) → i < length ps → length (walkFrom ps i) ≡ 1 + length (tourFrom ps i)

@@ -63,7 +63,7 @@ module _ (ps : List Station) (h : Canonical ps) where
       let t = above-held ps h w (stationLabel ps (getD (walkFrom ps 0) i 0)) p .0 in
       let e = t .1 .1 in
       let at : (m : ℕ) → m < length (walkFrom ps 0) → Above ps w (stationLabel ps (getD (walkFrom ps 0) m 0)) → AboveAt (parentOf ps) (depthOf ps) (t .0) (getD (walkFrom ps 0) m 0) =
-            λ m lm o. above-is ps h (t .0) (getD (walkFrom ps 0) m 0) (t .1 .0) (entry-inside m lm) .1 (subst (λ (z : Label). Above ps z (stationLabel ps (getD (walkFrom ps 0) m 0))) (sym e) o) in
+      λ m lm o. above-is ps h (t .0) (getD (walkFrom ps 0) m 0) (t .1 .0) (entry-inside m lm) .1 (subst (λ (z : Label). Above ps z (stationLabel ps (getD (walkFrom ps 0) m 0))) (sym e) o) in
       subst (λ (z : Label). Above ps z (stationLabel ps (getD (walkFrom ps 0) k 0))) e
       (above-is ps h (t .0) (getD (walkFrom ps 0) k 0) (t .1 .0) (entry-inside k (omega arith)) .0 (convex (t .0) i k j a b l (at i (omega arith) p) (at j l q)))
 

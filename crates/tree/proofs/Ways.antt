@@ -140,18 +140,18 @@ module _ {n : ℕ} {up depth : ℕ → ℕ} (r : Rooted n up depth) where
       ⊎-elim
       (λ (e : u ≡ v). (course-same u v e, course-end up depth f u v e))
       (λ (ne : u ≡ v → ⊥).
-          ⊎-elim
-          (λ (lt : depth u < depth v).
-              let np : AboveAt up depth v u → ⊥ = λ p. omega (arith, p .0) in
-              let d = r .deeper v (off-root r v u lu np) lv in
-              let t = course-is f u (up v) lu (r .inside v lv) (omega arith) in
-              (course-down u v lu lv np (t .0), course-right up depth f u v ne lt ∙ ap (λ (xs : List ℕ). xs ++ v ∷ []) (t .1)))
-          (λ (le : depth v ≤ depth u).
-              let np : AboveAt up depth u v → ⊥ = λ p. ne (above-level r u v p le) in
-              let d = r .deeper u (off-root r u v lv np) lu in
-              let t = course-is f (up u) v (r .inside u lu) lv (omega arith) in
-              (course-up u v lu lv np (t .0), course-left up depth f u v ne le ∙ ap (λ (xs : List ℕ). u ∷ xs) (t .1)))
-          (cases-lt (depth u) (depth v)))
+      ⊎-elim
+      (λ (lt : depth u < depth v).
+      let np : AboveAt up depth v u → ⊥ = λ p. omega (arith, p .0) in
+      let d = r .deeper v (off-root r v u lu np) lv in
+      let t = course-is f u (up v) lu (r .inside v lv) (omega arith) in
+      (course-down u v lu lv np (t .0), course-right up depth f u v ne lt ∙ ap (λ (xs : List ℕ). xs ++ v ∷ []) (t .1)))
+      (λ (le : depth v ≤ depth u).
+      let np : AboveAt up depth u v → ⊥ = λ p. ne (above-level r u v p le) in
+      let d = r .deeper u (off-root r u v lv np) lu in
+      let t = course-is f (up u) v (r .inside u lu) lv (omega arith) in
+      (course-up u v lu lv np (t .0), course-left up depth f u v ne le ∙ ap (λ (xs : List ℕ). u ∷ xs) (t .1)))
+      (cases-lt (depth u) (depth v)))
       (cases-eq u v)
 
   -- a course that leaves the stations below o passes the station over o

@@ -17,7 +17,7 @@ Named rs a = (k : ℕ) × ((k < length (rs .labels)) × (labelAt (rs .labels) k 
 -- a record but the first has those two labels, in either order
 abbrev pub Tied : Records → Label → Label → Type 0
 Tied rs a b = (k : ℕ) × ((0 < k) × (k < length (rs .labels))
-  × (((labelAt (rs .labels) k ≡ a) × (labelAt (rs .labels) (getD (rs .joins) k 0) ≡ b)) ⊎ ((labelAt (rs .labels) k ≡ b) × (labelAt (rs .labels) (getD (rs .joins) k 0) ≡ a))))
+    × (((labelAt (rs .labels) k ≡ a) × (labelAt (rs .labels) (getD (rs .joins) k 0) ≡ b)) ⊎ ((labelAt (rs .labels) k ≡ b) × (labelAt (rs .labels) (getD (rs .joins) k 0) ≡ a))))
 
 -- the plan has the stations and the legs of the records, and no more
 pub record Charted (rs : Records) (ps : List Station) : Type 0 where

@@ -5,14 +5,13 @@ use mathlib.Core.Logic.{_⊎_}
 use Prim.Native.Nat.{ℕ, _+_, _≤_, _<_}
 use lib.ListN.{length, getD}
 
-
 abbrev pub Unset : List ℕ → Type 0
 Unset ds = (k : ℕ) → k < length ds → getD ds k 0 ≡ 0
 
 -- x has its parent: one that is one less deep and is joined to it
 abbrev pub Linked : List ℕ → List ℕ → List ℕ → ℕ → Type 0
 Linked js ups ds x = (getD ups x 0 < length js) × (0 < getD ds (getD ups x 0) 0) × (getD ds x 0 ≡ getD ds (getD ups x 0) 0 + 1)
-  × (((0 < x) × (getD ups x 0 ≡ getD js x 0)) ⊎ ((0 < getD ups x 0) × (getD js (getD ups x 0) 0 ≡ x)))
+    × (((0 < x) × (getD ups x 0 ≡ getD js x 0)) ⊎ ((0 < getD ups x 0) × (getD js (getD ups x 0) 0 ≡ x)))
 
 -- The stations with a depth are those from the root to cur: each but the root is linked, each but cur is
 -- the parent of the one that it is joined to, and none lies below cur.

@@ -42,18 +42,17 @@ module _ (ps : List Station) (h : Canonical ps) where
   pub told-above : (a b : Label) (u v s : ℕ) → At ps a u → At ps b v → s ≡ climb (parentOf ps) (depthOf ps v - depthOf ps u) v → Decides (eqb s u) (Above ps a b)
   told-above a b u v s fu fv e =
       let here : Above ps a b → AboveAt (parentOf ps) (depthOf ps) u v = λ o.
-            above-is ps h u v (fu .0) (fv .0) .1 (subst (λ (z : Label). Above ps z (stationLabel ps v)) (sym (fu .1)) (subst (λ (z : Label). Above ps a z) (sym (fv .1)) o)) in
-      (
+      above-is ps h u v (fu .0) (fv .0) .1 (subst (λ (z : Label). Above ps z (stationLabel ps v)) (sym (fu .1)) (subst (λ (z : Label). Above ps a z) (sym (fv .1)) o)) in (
         (λ t.
             let same : s ≡ u = eqb-true s u t in
             let deep : depthOf ps u ≤ depthOf ps v =
-                  ⊎-elim
-                  (λ (lt : depthOf ps v < depthOf ps u).
-                      let z : depthOf ps v - depthOf ps u ≡ 0 = omega arith in
-                      let at : u ≡ v = sym same ∙ e ∙ ap (λ (k : ℕ). climb (parentOf ps) k v) z in
-                      omega (arith, ap (depthOf ps) at))
-                  (λ (le : depthOf ps u ≤ depthOf ps v). le)
-                  (cases-lt (depthOf ps v) (depthOf ps u)) in
+            ⊎-elim
+            (λ (lt : depthOf ps v < depthOf ps u).
+            let z : depthOf ps v - depthOf ps u ≡ 0 = omega arith in
+            let at : u ≡ v = sym same ∙ e ∙ ap (λ (k : ℕ). climb (parentOf ps) k v) z in
+            omega (arith, ap (depthOf ps) at))
+            (λ (le : depthOf ps u ≤ depthOf ps v). le)
+            (cases-lt (depthOf ps v) (depthOf ps u)) in
             subst (λ (z : Label). Above ps z b) (fu .1) (subst (λ (z : Label). Above ps (stationLabel ps u) z) (fv .1) (above-is ps h u v (fu .0) (fv .0) .0 (deep, sym e ∙ same)))),
         (λ o. eq-eqb s u (e ∙ here o .1)),
       )
@@ -72,8 +71,7 @@ module _ (ps : List Station) (h : Canonical ps) where
 
   pub told-way : (a b : Label) (before after : List Label) (u v n : ℕ) → At ps a u → At ps b v → take n after ≡ map (stationLabel ps) (courseFrom ps u v) → drop n after ≡ drop n before → n ≤ 1024 → WayTold ps a b before after (Some n)
   told-way a b before after u v n fu fv w d le =
-      let t = course-way ps h u v (fu .0) (fv .0) in
-      (
+      let t = course-way ps h u v (fu .0) (fv .0) in (
         (t .0, (w ∙ t .1 .0 ∙ ap (λ (z : Label). z ∷ t .0) (fu .1), subst (λ (z : Label). Way (Leg ps) z (t .0) b) (fu .1) (subst (λ (z : Label). Way (Leg ps) (stationLabel ps u) (t .0) z) (fv .1) (t .1 .1)))),
         d,
         le,
@@ -84,14 +82,14 @@ module _ (ps : List Station) (h : Canonical ps) where
       let same : i ≡ j = some j refl in
       ⊎-elim
       (λ (k : Holds ps a × (b ≡ a)).
-          subst (λ (z : ℕ). FirstPlace (walkLabels ps) b z) (sym (e ∙ ap (λ (z : ℕ). firstPlace z (walkFrom ps 0)) same))
-          (subst (λ (z : Label). FirstPlace (walkLabels ps) z (firstPlace j (walkFrom ps 0))) (f .1 ∙ sym (k .1)) (first-place ps h j (f .0))))
+      subst (λ (z : ℕ). FirstPlace (walkLabels ps) b z) (sym (e ∙ ap (λ (z : ℕ). firstPlace z (walkFrom ps 0)) same))
+      (subst (λ (z : Label). FirstPlace (walkLabels ps) z (firstPlace j (walkFrom ps 0))) (f .1 ∙ sym (k .1)) (first-place ps h j (f .0))))
       (λ (k : (Holds ps a → ⊥) × (b ≡ rootLabel ps)). absurd (k .0 (j, f)))
       counts
   told-place a None i r f some none e b counts =
       ⊎-elim
       (λ (k : Holds ps a × (b ≡ a)). absurd (f (k .0)))
       (λ (k : (Holds ps a → ⊥) × (b ≡ rootLabel ps)).
-          subst (λ (z : ℕ). FirstPlace (walkLabels ps) b z) (sym (e ∙ ap (λ (z : ℕ). firstPlace z (walkFrom ps 0)) (none refl)))
-          (subst (λ (z : Label). FirstPlace (walkLabels ps) z (firstPlace 0 (walkFrom ps 0))) (sym (k .1)) (first-place ps h 0 (h .some))))
+      subst (λ (z : ℕ). FirstPlace (walkLabels ps) b z) (sym (e ∙ ap (λ (z : ℕ). firstPlace z (walkFrom ps 0)) (none refl)))
+      (subst (λ (z : Label). FirstPlace (walkLabels ps) z (firstPlace 0 (walkFrom ps 0))) (sym (k .1)) (first-place ps h 0 (h .some))))
       counts

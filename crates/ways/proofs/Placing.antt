@@ -42,8 +42,8 @@ module _ (ps : List Station) (h : Canonical ps) where
     entry-past l b e =
         e ∙ ⊎-elim
         (λ (z : place ≡ 0).
-            let first : getD (walkFrom ps 0) 0 0 ≡ 0 = ap (λ (ys : List ℕ). getD ys 0 0) (walk-step ps h 0 (h .some)) in
-            sym (ap (λ (k : ℕ). getD (walkLabels ps) (k - 1) (rootLabel ps)) z ∙ getD-map (stationLabel ps) (walkFrom ps 0) 0 0 (rootLabel ps) (omega (arith, ap length (walk-step ps h 0 (h .some)))) ∙ ap (stationLabel ps) first))
+        let first : getD (walkFrom ps 0) 0 0 ≡ 0 = ap (λ (ys : List ℕ). getD ys 0 0) (walk-step ps h 0 (h .some)) in
+        sym (ap (λ (k : ℕ). getD (walkLabels ps) (k - 1) (rootLabel ps)) z ∙ getD-map (stationLabel ps) (walkFrom ps 0) 0 0 (rootLabel ps) (omega (arith, ap length (walk-step ps h 0 (h .some)))) ∙ ap (stationLabel ps) first))
         (λ (p : (place ≡ 0 → ⊥) × (n < place)). sym (getD-past (walkLabels ps) (place - 1) (rootLabel ps) (omega (arith, labels-long ps h))))
         b
 

@@ -10,7 +10,7 @@ use Rattle.std.proofs.shelf.Lists.{take-set-le, drop-set-lt, take-more-set, dro
 module _ {X : Type 0} (out : List X) (x : X) (front back : ℕ) where
   -- the last element that is left
   pub write-back : (mid all : List X) → front < back → back ≤ length out → take front out ++ ((mid ++ x ∷ []) ++ drop back out) ≡ all
-    → take front (set out (back - 1) x) ++ (mid ++ drop (back - 1) (set out (back - 1) x)) ≡ all
+      → take front (set out (back - 1) x) ++ (mid ++ drop (back - 1) (set out (back - 1) x)) ≡ all
   write-back mid all lt le e =
       let one : back - 1 + 1 ≡ back = omega arith in
       let kept = take-set-le front out (back - 1) x (omega arith) in
@@ -22,7 +22,7 @@ module _ {X : Type 0} (out : List X) (x : X) (front back : ℕ) where
 
   -- the first element that is left
   pub write-front : (mid all : List X) → front < back → back ≤ length out → take front out ++ ((x ∷ mid) ++ drop back out) ≡ all
-    → take (front + 1) (set out front x) ++ (mid ++ drop back (set out front x)) ≡ all
+      → take (front + 1) (set out front x) ++ (mid ++ drop back (set out front x)) ≡ all
   write-front mid all lt le e =
       ap (λ (ys : List X). ys ++ (mid ++ drop back (set out front x))) (take-more-set out front x (omega arith))
       ∙ ap (λ (ys : List X). (take front out ++ x ∷ []) ++ (mid ++ ys)) (drop-set-lt back out front x lt)

@@ -9,7 +9,7 @@ use crate::reads::parent_of;
 use tree::Station;
 
 // The deepest station above both u and v.
-pub fn meeting_point(ps: &[Station], u: u16, v: u16) -> u16
+pub(crate) fn meeting_point(ps: &[Station], u: u16, v: u16) -> u16
     requires lawful { ⌜ Canonical (now ps) ⌝ }
     requires first { ⌜ u < length (now ps) ⌝ }
     requires second { ⌜ v < length (now ps) ⌝ }
@@ -28,7 +28,7 @@ pub fn meeting_point(ps: &[Station], u: u16, v: u16) -> u16
 }
 
 // The station at this depth on the way from the root to v, or v itself where that way is shorter.
-pub fn station_at(ps: &[Station], v: u16, level: usize) -> u16
+pub(crate) fn station_at(ps: &[Station], v: u16, level: usize) -> u16
     requires lawful { ⌜ Canonical (now ps) ⌝ }
     requires known { ⌜ v < length (now ps) ⌝ }
     requires some { ⌜ 0 < level ⌝ }
@@ -43,7 +43,7 @@ pub fn station_at(ps: &[Station], v: u16, level: usize) -> u16
 }
 
 // A station than which none is deeper.
-pub fn deepest_station(ps: &[Station]) -> u16
+pub(crate) fn deepest_station(ps: &[Station]) -> u16
     requires lawful { ⌜ Canonical (now ps) ⌝ }
     ensures inside { λ r. ⌜ r < length (now (ps .entry)) ⌝ }
     ensures most { λ r. ⌜ ((k : ℕ) → k < length (now (ps .entry)) → depthOf (now (ps .entry)) k ≤ depthOf (now (ps .entry)) r) ⌝ }

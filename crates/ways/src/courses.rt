@@ -33,7 +33,7 @@ fn course_length(ps: &[Station], u: u16, v: u16) -> usize
 }
 
 // Writes the labels of the stations on the way from u to v, and gives their count; what stands behind is kept.
-pub fn write_course(ps: &[Station], u: u16, v: u16, out: &mut [Label; 1024]) -> usize
+pub(crate) fn write_course(ps: &[Station], u: u16, v: u16, out: &mut [Label; 1024]) -> usize
     requires lawful { ⌜ Canonical (now ps) ⌝ }
     requires first { ⌜ u < length (now ps) ⌝ }
     requires second { ⌜ v < length (now ps) ⌝ }

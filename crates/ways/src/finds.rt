@@ -9,7 +9,7 @@ use label::Label;
 use tree::Station;
 
 // The index of the station with this label, if there is one.
-pub fn find(ps: &[Station], label: Label) -> Option<u16>
+pub(crate) fn find(ps: &[Station], label: Label) -> Option<u16>
     requires few { ⌜ length (now ps) ≤ 1024 ⌝ }
     ensures value { λ r. ⌜ r ≡ indexOf (now (ps .entry)) label ⌝ }
     ensures says { λ r. ⌜ Found (now (ps .entry)) label r ⌝ }
@@ -18,7 +18,7 @@ pub fn find(ps: &[Station], label: Label) -> Option<u16>
 }
 
 // The indices of two stations, if both are there.
-pub fn find_both(ps: &[Station], a: Label, b: Label) -> Option<(u16, u16)>
+pub(crate) fn find_both(ps: &[Station], a: Label, b: Label) -> Option<(u16, u16)>
     requires few { ⌜ length (now ps) ≤ 1024 ⌝ }
     ensures { λ r. ⌜ BothFound (now (ps .entry)) a b r ⌝ }
 {

@@ -6,6 +6,7 @@ mod finds;
 mod places;
 mod reads;
 mod walks;
+
 pub use asks::at_depth;
 pub use asks::deepest_above;
 pub use asks::depth;

@@ -40,7 +40,7 @@ fn branch_walk(ps: &[Station], at: u16, out: &mut [u16], start: usize) -> usize
 }
 
 // Writes the walk, by indices, and gives its length.
-pub fn write_walk(ps: &[Station], out: &mut [u16; 2047]) -> usize
+pub(crate) fn write_walk(ps: &[Station], out: &mut [u16; 2047]) -> usize
     requires lawful { ⌜ Canonical (now ps) ⌝ }
     ensures end { λ r. ⌜ r ≡ length (walkFrom (now (ps .entry)) 0) ⌝ }
     ensures within { λ r. ⌜ r ≤ 2047 ⌝ }
@@ -50,7 +50,7 @@ pub fn write_walk(ps: &[Station], out: &mut [u16; 2047]) -> usize
 }
 
 // The place, counted from 1, of the first entry that is this station.
-pub fn place_of(walk: &[u16], at: u16) -> usize
+pub(crate) fn place_of(walk: &[u16], at: u16) -> usize
     requires { ⌜ length (now walk) ≤ 2047 ⌝ }
     ensures { λ r. ⌜ r ≡ firstPlace at (now (walk .entry)) ⌝ }
 {

@@ -36,7 +36,11 @@ impl Plan {
         ensures { λ r. ⌜ elim r [ Ok p ↦ stationsOf p ≡ single | Err e ↦ Unit {0} ] ⌝ }
     {
         let mut stations = Vec::with_capacity(heap, 1024)?;
-        stations.push_reserved(Station { label: zero(), parent: 0, depth: 1 });
+        stations.push_reserved(Station {
+            label: zero(),
+            parent: 0,
+            depth: 1,
+        });
         Ok(Plan { stations })
     }
 

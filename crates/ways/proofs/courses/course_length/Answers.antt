@@ -15,25 +15,25 @@ add-count c = omega (arith, course-short (c .args .ps .now) (c .pre .lawful) (c 
 pub loop-a-less : need.loop-a-less
 loop-a-less c =
     elim (c .if-depth-of .came) [
-      then-depth-of w ↦
-        let s = course-from-right (c .args .ps .now) (c .pre .lawful) (c .loop-a .a) (c .loop-a .b) (c .loop-a .inv .0) (c .loop-a .inv .1) (c .loop-a-test .taken) (omega (arith, w .if-depth-of .taken)) in
-        omega (arith, s .1, ap (depthOf (c .args .ps .now)) (w .a-is), ap (depthOf (c .args .ps .now)) (w .b-is), ap (depthOf (c .args .ps .now)) (w .parent-of-b .ensures))
-    | else-depth-of w ↦
-        let s = course-from-left (c .args .ps .now) (c .pre .lawful) (c .loop-a .a) (c .loop-a .b) (c .loop-a .inv .0) (c .loop-a .inv .1) (c .loop-a-test .taken) (omega (arith, w .if-depth-of .left)) in
-        omega (arith, s .1, ap (depthOf (c .args .ps .now)) (w .a-is), ap (depthOf (c .args .ps .now)) (w .b-is), ap (depthOf (c .args .ps .now)) (w .parent-of-a .ensures))
+      | then-depth-of w ↦
+          let s = course-from-right (c .args .ps .now) (c .pre .lawful) (c .loop-a .a) (c .loop-a .b) (c .loop-a .inv .0) (c .loop-a .inv .1) (c .loop-a-test .taken) (omega (arith, w .if-depth-of .taken)) in
+          omega (arith, s .1, ap (depthOf (c .args .ps .now)) (w .a-is), ap (depthOf (c .args .ps .now)) (w .b-is), ap (depthOf (c .args .ps .now)) (w .parent-of-b .ensures))
+      | else-depth-of w ↦
+          let s = course-from-left (c .args .ps .now) (c .pre .lawful) (c .loop-a .a) (c .loop-a .b) (c .loop-a .inv .0) (c .loop-a .inv .1) (c .loop-a-test .taken) (omega (arith, w .if-depth-of .left)) in
+          omega (arith, s .1, ap (depthOf (c .args .ps .now)) (w .a-is), ap (depthOf (c .args .ps .now)) (w .b-is), ap (depthOf (c .args .ps .now)) (w .parent-of-a .ensures))
     ]
 
 pub loop-a-again : need.loop-a-again
 loop-a-again c =
     let r = rooted (c .args .ps .now) (c .pre .lawful) in
     elim (c .if-depth-of .came) [
-      then-depth-of w ↦
-        let s = course-from-right (c .args .ps .now) (c .pre .lawful) (c .loop-a .a) (c .loop-a .b) (c .loop-a .inv .0) (c .loop-a .inv .1) (c .loop-a-test .taken) (omega (arith, w .if-depth-of .taken)) in
-        let long = length-append (courseFrom (c .args .ps .now) (c .loop-a .a) (parentOf (c .args .ps .now) (c .loop-a .b))) (c .loop-a .b ∷ []) in
-        simp (w .a-is, w .b-is, w .parent-of-b .ensures) (c .loop-a .inv .0, r .inside (c .loop-a .b) (c .loop-a .inv .1), omega (arith, ap length (s .0)))
-    | else-depth-of w ↦
-        let s = course-from-left (c .args .ps .now) (c .pre .lawful) (c .loop-a .a) (c .loop-a .b) (c .loop-a .inv .0) (c .loop-a .inv .1) (c .loop-a-test .taken) (omega (arith, w .if-depth-of .left)) in
-        simp (w .a-is, w .b-is, w .parent-of-a .ensures) (r .inside (c .loop-a .a) (c .loop-a .inv .0), c .loop-a .inv .1, omega (arith, ap length (s .0)))
+      | then-depth-of w ↦
+          let s = course-from-right (c .args .ps .now) (c .pre .lawful) (c .loop-a .a) (c .loop-a .b) (c .loop-a .inv .0) (c .loop-a .inv .1) (c .loop-a-test .taken) (omega (arith, w .if-depth-of .taken)) in
+          let long = length-append (courseFrom (c .args .ps .now) (c .loop-a .a) (parentOf (c .args .ps .now) (c .loop-a .b))) (c .loop-a .b ∷ []) in
+          simp (w .a-is, w .b-is, w .parent-of-b .ensures) (c .loop-a .inv .0, r .inside (c .loop-a .b) (c .loop-a .inv .1), omega (arith, ap length (s .0)))
+      | else-depth-of w ↦
+          let s = course-from-left (c .args .ps .now) (c .pre .lawful) (c .loop-a .a) (c .loop-a .b) (c .loop-a .inv .0) (c .loop-a .inv .1) (c .loop-a-test .taken) (omega (arith, w .if-depth-of .left)) in
+          simp (w .a-is, w .b-is, w .parent-of-a .ensures) (r .inside (c .loop-a .a) (c .loop-a .inv .0), c .loop-a .inv .1, omega (arith, ap length (s .0)))
     ]
 
 pub returns : need.returns

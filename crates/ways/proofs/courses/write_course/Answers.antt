@@ -33,8 +33,8 @@ loop-a-again-then-depth-of c =
     let long = ap length (s .0) in
     let more = length-append (courseFrom (c .args .ps .now) (c .loop-a .a) (parentOf (c .args .ps .now) (c .loop-a .b))) (c .loop-a .b ∷ []) in
     let names : map (stationLabel (c .args .ps .now)) (courseFrom (c .args .ps .now) (c .loop-a .a) (c .loop-a .b)) ≡ map (stationLabel (c .args .ps .now)) (courseFrom (c .args .ps .now) (c .loop-a .a) (parentOf (c .args .ps .now) (c .loop-a .b))) ++ c .label-of .result ∷ [] =
-          ap (map (stationLabel (c .args .ps .now))) (s .0) ∙ map-append (stationLabel (c .args .ps .now)) (courseFrom (c .args .ps .now) (c .loop-a .a) (parentOf (c .args .ps .now) (c .loop-a .b))) (c .loop-a .b ∷ [])
-          ∙ ap (λ (l : Label). map (stationLabel (c .args .ps .now)) (courseFrom (c .args .ps .now) (c .loop-a .a) (parentOf (c .args .ps .now) (c .loop-a .b))) ++ l ∷ []) (sym (c .label-of .ensures)) in
+    ap (map (stationLabel (c .args .ps .now))) (s .0) ∙ map-append (stationLabel (c .args .ps .now)) (courseFrom (c .args .ps .now) (c .loop-a .a) (parentOf (c .args .ps .now) (c .loop-a .b))) (c .loop-a .b ∷ [])
+    ∙ ap (λ (l : Label). map (stationLabel (c .args .ps .now)) (courseFrom (c .args .ps .now) (c .loop-a .a) (parentOf (c .args .ps .now) (c .loop-a .b))) ++ l ∷ []) (sym (c .label-of .ensures)) in
     let old = sym (ap (λ (xs : List Label). take (c .loop-a .front) (c .loop-a .out) ++ (xs ++ drop (c .loop-a .back) (c .loop-a .out))) names) ∙ c .loop-a .inv .6 in
     simp (length-set, c .parent-of-b .ensures) (
       c .loop-a .inv .0,
@@ -43,7 +43,7 @@ loop-a-again-then-depth-of c =
       omega arith,
       omega arith,
       c .loop-a .inv .5,
-      write-back (c .loop-a .out) (c .label-of .result) (c .loop-a .front) (c .loop-a .back) (map (stationLabel (c .args .ps .now)) (courseFrom (c .args .ps .now) (c .loop-a .a) (parentOf (c .args .ps .now) (c .loop-a .b)))) _ (omega arith) (omega arith) old
+      write-back (c .loop-a .out) (c .label-of .result) (c .loop-a .front) (c .loop-a .back) (map (stationLabel (c .args .ps .now)) (courseFrom (c .args .ps .now) (c .loop-a .a) (parentOf (c .args .ps .now) (c .loop-a .b)))) _ (omega arith) (omega arith) old,
     )
 
 pub listed-else-depth-of : need.listed-else-depth-of
@@ -62,8 +62,8 @@ loop-a-again c =
     let s = course-from-left (c .args .ps .now) (c .pre .lawful) (c .loop-a .a) (c .loop-a .b) (c .loop-a .inv .1) (c .loop-a .inv .2) (c .loop-a-test .taken) (omega arith) in
     let long = ap length (s .0) in
     let names : map (stationLabel (c .args .ps .now)) (courseFrom (c .args .ps .now) (c .loop-a .a) (c .loop-a .b)) ≡ c .label-of-else-depth-of .result ∷ map (stationLabel (c .args .ps .now)) (courseFrom (c .args .ps .now) (parentOf (c .args .ps .now) (c .loop-a .a)) (c .loop-a .b)) =
-          ap (map (stationLabel (c .args .ps .now))) (s .0)
-          ∙ ap (λ (l : Label). l ∷ map (stationLabel (c .args .ps .now)) (courseFrom (c .args .ps .now) (parentOf (c .args .ps .now) (c .loop-a .a)) (c .loop-a .b))) (sym (c .label-of-else-depth-of .ensures)) in
+    ap (map (stationLabel (c .args .ps .now))) (s .0)
+    ∙ ap (λ (l : Label). l ∷ map (stationLabel (c .args .ps .now)) (courseFrom (c .args .ps .now) (parentOf (c .args .ps .now) (c .loop-a .a)) (c .loop-a .b))) (sym (c .label-of-else-depth-of .ensures)) in
     let old = sym (ap (λ (xs : List Label). take (c .loop-a .front) (c .loop-a .out) ++ (xs ++ drop (c .loop-a .back) (c .loop-a .out))) names) ∙ c .loop-a .inv .6 in
     simp (length-set, c .parent-of-a .ensures) (
       c .loop-a .inv .0,
@@ -72,7 +72,7 @@ loop-a-again c =
       omega arith,
       c .loop-a .inv .4,
       c .loop-a .inv .5,
-      write-front (c .loop-a .out) (c .label-of-else-depth-of .result) (c .loop-a .front) (c .loop-a .back) (map (stationLabel (c .args .ps .now)) (courseFrom (c .args .ps .now) (parentOf (c .args .ps .now) (c .loop-a .a)) (c .loop-a .b))) _ (omega arith) (omega arith) old
+      write-front (c .loop-a .out) (c .label-of-else-depth-of .result) (c .loop-a .front) (c .loop-a .back) (map (stationLabel (c .args .ps .now)) (courseFrom (c .args .ps .now) (parentOf (c .args .ps .now) (c .loop-a .a)) (c .loop-a .b))) _ (omega arith) (omega arith) old,
     )
 
 pub listed-2 : need.listed-2
@@ -86,7 +86,7 @@ returns c =
     let met = course-met (c .args .ps .now) (c .pre .lawful) (c .loop-a .a) (c .loop-a .b) (c .loop-a .inv .1) (c .loop-a .inv .2) (c .loop-a-test .left) in
     let long = ap length met in
     let names : map (stationLabel (c .args .ps .now)) (courseFrom (c .args .ps .now) (c .loop-a .a) (c .loop-a .b)) ≡ c .label-of-2 .result ∷ [] =
-          ap (map (stationLabel (c .args .ps .now))) met ∙ ap (λ (l : Label). l ∷ []) (sym (c .label-of-2 .ensures)) in
+    ap (map (stationLabel (c .args .ps .now))) met ∙ ap (λ (l : Label). l ∷ []) (sym (c .label-of-2 .ensures)) in
     let old = sym (ap (λ (xs : List Label). take (c .loop-a .front) (c .loop-a .out) ++ (xs ++ drop (c .loop-a .back) (c .loop-a .out))) names) ∙ c .loop-a .inv .6 in
     let whole = write-last (c .loop-a .out) (c .label-of-2 .result) (c .loop-a .front) (c .loop-a .back) _ (omega arith) (omega arith) old in
     let size = length-map (courseFrom (c .args .ps .now) (c .args .u) (c .args .v)) (stationLabel (c .args .ps .now)) ∙ sym (c .course-length-total .ensures) in

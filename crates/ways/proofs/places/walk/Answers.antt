@@ -24,7 +24,7 @@ returns c =
     let e = front-is (c .write-walk-count .last .out) (walkFrom (c .args .ps .now) 0) (c .write-walk-count .result) (c .write-walk-count .ensures .written) in
     let n : length (take (c .write-walk-count .result - 0) (c .write-walk-count .last .out)) ≡ c .write-walk-count .result = ap length e ∙ sym (c .write-walk-count .ensures .end) in
     let w : take (c .write-walk-count .result) (c .write-labels .last .out) ≡ walkLabels (c .args .ps .now) =
-          sym (ap (λ (k : ℕ). take k (c .write-labels .last .out)) n) ∙ c .write-labels .ensures .written ∙ ap (map (stationLabel (c .args .ps .now))) e in
+    sym (ap (λ (k : ℕ). take k (c .write-labels .last .out)) n) ∙ c .write-labels .ensures .written ∙ ap (map (stationLabel (c .args .ps .now))) e in
     record {
       count = omega (arith, walk-long (c .args .ps .now) (c .pre .lawful), c .write-walk-count .ensures .end);
       written = w;

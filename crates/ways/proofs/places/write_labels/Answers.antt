@@ -10,17 +10,16 @@ use Rattle.tree.specs.Stations.{stationLabel}
 use Rattle.ways.proofs.places.write_labels.Needs as need
 
 pub loop-k-again : need.loop-k-again
-loop-k-again c =
-    (
-      length-set _ _ _ ∙ c .loop-k .inv .0,
-      take-more-set (c .loop-k .out) (c .loop-k .k) (c .label-of .result) (omega arith)
+loop-k-again c = (
+  length-set _ _ _ ∙ c .loop-k .inv .0,
+  take-more-set (c .loop-k .out) (c .loop-k .k) (c .label-of .result) (omega arith)
       ∙ ap (λ (xs : List Label). xs ++ c .label-of .result ∷ []) (c .loop-k .inv .1)
       ∙ ap (λ (l : Label). map (stationLabel (c .args .ps .now)) (take (c .loop-k .k) (c .args .places .now)) ++ l ∷ []) (c .label-of .ensures)
       ∙ sym (map-append (stationLabel (c .args .ps .now)) (take (c .loop-k .k) (c .args .places .now)) (getD (c .args .places .now) (c .loop-k .k) 0 ∷ []))
       ∙ sym (ap (map (stationLabel (c .args .ps .now))) (take-more (c .args .places .now) (c .loop-k .k) 0 (c .loop-k-test .taken))),
-      drop-set-lt (c .loop-k .k + 1) (c .loop-k .out) (c .loop-k .k) (c .label-of .result) (omega arith)
-      ∙ sym (drop-drop 1 (c .loop-k .k) (c .loop-k .out)) ∙ ap (drop 1) (c .loop-k .inv .2) ∙ drop-drop 1 (c .loop-k .k) (c .args .out .now)
-    )
+  drop-set-lt (c .loop-k .k + 1) (c .loop-k .out) (c .loop-k .k) (c .label-of .result) (omega arith)
+      ∙ sym (drop-drop 1 (c .loop-k .k) (c .loop-k .out)) ∙ ap (drop 1) (c .loop-k .inv .2) ∙ drop-drop 1 (c .loop-k .k) (c .args .out .now),
+)
 
 pub returns : need.returns
 returns c =

@@ -14,9 +14,10 @@ pub branch-walk-loop-j-holds : need.branch-walk-loop-j-holds
 branch-walk-loop-j-holds t c = rw (tour-start (c .args .ps .now) (c .args .at)) (refl, refl)
 
 pub branch-walk-station-walk-fill-requires : need.branch-walk-station-walk-fill-requires
-branch-walk-station-walk-fill-requires t c κs =
-    (level-falls (c .args .ps .now) (c .pre .lawful) (c .args .at) (c .loop-j .j) t (c .pre .known) (c .loop-j .kept .j) (c .loop-j-test .taken) (sym (c .parent-of .ensures) ∙ c .if-parent-of-at .taken) (c .measured),
-      (c .pre .lawful, (c .loop-j-test .taken, omega (arith, tour-length (c .args .ps .now) (c .args .at) (c .loop-j .j) (c .loop-j-test .taken) (sym (c .parent-of .ensures) ∙ c .if-parent-of-at .taken)))))
+branch-walk-station-walk-fill-requires t c κs = (
+  level-falls (c .args .ps .now) (c .pre .lawful) (c .args .at) (c .loop-j .j) t (c .pre .known) (c .loop-j .kept .j) (c .loop-j-test .taken) (sym (c .parent-of .ensures) ∙ c .if-parent-of-at .taken) (c .measured),
+  (c .pre .lawful, (c .loop-j-test .taken, omega (arith, tour-length (c .args .ps .now) (c .args .at) (c .loop-j .j) (c .loop-j-test .taken) (sym (c .parent-of .ensures) ∙ c .if-parent-of-at .taken)))),
+)
 
 pub branch-walk-offset-out-fill : need.branch-walk-offset-out-fill
 branch-walk-offset-out-fill t c = omega (arith, tour-length (c .args .ps .now) (c .args .at) (c .loop-j .j) (c .loop-j-test .taken) (sym (c .parent-of .ensures) ∙ c .if-parent-of-at .taken))
@@ -30,16 +31,16 @@ branch-walk-add-fill t c = omega (arith, tour-length (c .args .ps .now) (c .args
 pub branch-walk-loop-j-again : need.branch-walk-loop-j-again
 branch-walk-loop-j-again t c =
     elim (c .if-parent-of-at .came) [
-      branch-walk-then-parent-of-at w ↦
-        let long = tour-length (c .args .ps .now) (c .args .at) (c .loop-j .j) (c .loop-j-test .taken) (sym (c .parent-of .ensures) ∙ w .if-parent-of-at .taken) in
-        let step = tour-yes (c .args .ps .now) (c .args .at) (c .loop-j .j) (c .loop-j-test .taken) (sym (c .parent-of .ensures) ∙ w .if-parent-of-at .taken) in
-        let front : List ℕ = take (c .loop-j .fill) (c .loop-j .out) in
-        let inv = sym (ap (λ (xs : List ℕ). front ++ xs) step) ∙ c .loop-j .inv .1 in
-        let lt : w .station-walk-fill .result < length (w .station-walk-fill .last .out) = omega arith in
-        (omega arith, simp (w .fill-is, w .out-is) (turn (walkFrom (c .args .ps .now) (c .loop-j .j)) _ _ (c .loop-j .out) (w .station-walk-fill .last .out) (c .loop-j .fill) (w .station-walk-fill .result) (c .args .at) lt (w .station-walk-fill .ensures .written) inv))
-    | branch-walk-else-parent-of-at w ↦
-        let step = tour-no (c .args .ps .now) (c .args .at) (c .loop-j .j) (c .loop-j-test .taken) (λ e. w .if-parent-of-at .left (c .parent-of .ensures ∙ e)) in
-        simp (w .fill-is, w .out-is, ← step) (c .loop-j .inv)
+      | branch-walk-then-parent-of-at w ↦
+          let long = tour-length (c .args .ps .now) (c .args .at) (c .loop-j .j) (c .loop-j-test .taken) (sym (c .parent-of .ensures) ∙ w .if-parent-of-at .taken) in
+          let step = tour-yes (c .args .ps .now) (c .args .at) (c .loop-j .j) (c .loop-j-test .taken) (sym (c .parent-of .ensures) ∙ w .if-parent-of-at .taken) in
+          let front : List ℕ = take (c .loop-j .fill) (c .loop-j .out) in
+          let inv = sym (ap (λ (xs : List ℕ). front ++ xs) step) ∙ c .loop-j .inv .1 in
+          let lt : w .station-walk-fill .result < length (w .station-walk-fill .last .out) = omega arith in
+          (omega arith, simp (w .fill-is, w .out-is) (turn (walkFrom (c .args .ps .now) (c .loop-j .j)) _ _ (c .loop-j .out) (w .station-walk-fill .last .out) (c .loop-j .fill) (w .station-walk-fill .result) (c .args .at) lt (w .station-walk-fill .ensures .written) inv))
+      | branch-walk-else-parent-of-at w ↦
+          let step = tour-no (c .args .ps .now) (c .args .at) (c .loop-j .j) (c .loop-j-test .taken) (λ e. w .if-parent-of-at .left (c .parent-of .ensures ∙ e)) in
+          simp (w .fill-is, w .out-is, ← step) (c .loop-j .inv)
     ]
 
 pub branch-walk-returns : need.branch-walk-returns

@@ -17,4 +17,4 @@ abbrev pub μ-station-walk : given.MeasureT-station-walk
 
 abbrev pub Inv-branch-walk-loop-j : given.InvT-branch-walk-loop-j
 Inv-branch-walk-loop-j l = (l .fill + length (tourLeft (l .ps) (l .at) (l .j)) ≡ l .start + length (tourFrom (l .ps) (l .at)))
-  × (take (l .fill) (l .out) ++ tourLeft (l .ps) (l .at) (l .j) ≡ take (l .start) (l .entry .out) ++ tourFrom (l .ps) (l .at))
+    × (take (l .fill) (l .out) ++ tourLeft (l .ps) (l .at) (l .j) ≡ take (l .start) (l .entry .out) ++ tourFrom (l .ps) (l .at))
