@@ -4,6 +4,7 @@ use mathlib.Core.Bool.{Bool, true, false}
 use mathlib.Core.List.{List, [], _∷_}
 use Prim.Native.Nat.{ℕ, _+_, _≤_, _<_}
 use lib.ListN.{length, getD}
+use Rattle.std.specs.Options.{isSome}
 use Rattle.std.specs.declared.option.Option.{Option}
 use Rattle.std.specs.declared.option.Option.the-variants.{Some, None}
 use Rattle.label.specs.Signs.{sign, lawful}
@@ -40,6 +41,15 @@ pub record Shaped (bs : List ℕ) : Type 0 where
   pub most : signs ≤ 8
   pub front : (i : ℕ) → i < signs → sign (getD bs i 0) ≡ true
   pub back : (i : ℕ) → signs ≤ i → i < 8 → getD bs i 0 ≡ 32
+
+-- a label is read exactly from bytes of this shape
+pub record ReadExactly (bs : List ℕ) (r : Option Label) : Type 0 where
+  pub shaped : isSome r ≡ true → Shaped bs
+  pub whole : Shaped bs → isSome r ≡ true
+
+-- every label has this shape
+pub record AllShaped : Type 0 where
+  pub every : (l : Label) → Shaped (bytesOf l)
 
 -- the label `0`, the station of a plan made without a file
 abbrev pub zeroLabel : Label

@@ -43,13 +43,14 @@ module _ (ps : List Station) (h : Canonical ps) where
 
   -- the root has the lowest label
   pub root-is : Root ps (rootLabel ps)
-  root-is = (
-    root-held,
-    λ a k. ⊎-elim
-        (λ (e : k .0 ≡ 0). inl (sym (k .1 .1) ∙ ap (stationLabel ps) e))
-        (λ (ne : k .0 ≡ 0 → ⊥). inr (keys-follow .order (rootLabel ps) a .1 (subst (λ (z : Label). keyOf (rootLabel ps) < keyOf z) (k .1 .1) (h .ascending 0 (k .0) (omega arith) (k .1 .0)))))
-        (cases-eq (k .0) 0),
-  )
+  root-is =
+      record {
+        there = root-held;
+        lowest = λ a k. ⊎-elim
+            (λ (e : k .0 ≡ 0). inl (sym (k .1 .1) ∙ ap (stationLabel ps) e))
+            (λ (ne : k .0 ≡ 0 → ⊥). inr (keys-follow .order (rootLabel ps) a .1 (subst (λ (z : Label). keyOf (rootLabel ps) < keyOf z) (k .1 .1) (h .ascending 0 (k .0) (omega arith) (k .1 .0)))))
+            (cases-eq (k .0) 0);
+      }
 
   pub above-is : (u v : ℕ) → u < length ps → v < length ps → AboveAt (parentOf ps) (depthOf ps) u v ↔ Above ps (stationLabel ps u) (stationLabel ps v)
   above-is u v lu lv = above-named ps h v lv u lu
@@ -65,12 +66,13 @@ module _ (ps : List Station) (h : Canonical ps) where
   depth-one x d l t = depth-counts ps h x l (t .0) (t .1 .0) ∙ sym (t .1 .1)
 
   pub height-is : (x : ℕ) → x < length ps → ((k : ℕ) → k < length ps → depthOf ps k ≤ depthOf ps x) → Height ps (depthOf ps x)
-  height-is x l most = (
-    (stationLabel ps x, depth-is x l),
-    λ a d t.
-        let k = depth-held a d t in
-        omega (arith, most (k .0) (k .1 .0), depth-one (k .0) d (k .1 .0) (subst (λ (z : Label). Depth ps z d) (sym (k .1 .1)) t)),
-  )
+  height-is x l most =
+      record {
+        some = (stationLabel ps x, depth-is x l);
+        most = λ a d t.
+            let k = depth-held a d t in
+            omega (arith, most (k .0) (k .1 .0), depth-one (k .0) d (k .1 .0) (subst (λ (z : Label). Depth ps z d) (sym (k .1 .1)) t));
+      }
 
   pub deepest-is : (m u v : ℕ) → u < length ps → v < length ps → MeetAt (length ps) (parentOf ps) (depthOf ps) m u v → Deepest ps (stationLabel ps m) (stationLabel ps u) (stationLabel ps v)
   deepest-is m u v lu lv t = (

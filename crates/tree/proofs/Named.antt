@@ -118,11 +118,14 @@ length-named : {X : Type 0} (f : ℕ → X) (xs : List ℕ) → length (map f xs
 length-named f [] = refl
 length-named f (x ∷ xs) = ap suc (length-named f xs)
 
-pub one-way : OneWay
-one-way ps h a b ka kb =
+way-one : (ps : List Station) → Canonical ps → (a b : Label) → Holds ps a → Holds ps b → (xs : List Label) × (Way (Leg ps) a xs b × ((ys : List Label) → Way (Leg ps) a ys b → ys ≡ xs))
+way-one ps h a b ka kb =
     subst (λ (z : Label). (xs : List Label) × (Way (Leg ps) z xs b × ((ys : List Label) → Way (Leg ps) z ys b → ys ≡ xs))) (ka .1 .1)
     (subst (λ (z : Label). (xs : List Label) × (Way (Leg ps) (stationLabel ps (ka .0)) xs z × ((ys : List Label) → Way (Leg ps) (stationLabel ps (ka .0)) ys z → ys ≡ xs))) (kb .1 .1)
     (ways-at ps h (ka .0) (kb .0) (ka .1 .0) (kb .1 .0)))
+
+pub one-way : OneWay
+one-way = record { one = way-one }
 
 module _ (ps : List Station) (h : Canonical ps) (x : ℕ) (l : x < length ps) where
   -- above by indices is above by labels

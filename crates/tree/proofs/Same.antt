@@ -129,4 +129,4 @@ module _ (ps qs : List Station) (cp : Canonical ps) (cq : Canonical qs) (alike :
   same-plan = ext-getD nowhere ps qs same-length (λ i l. same-station (getD ps i nowhere) (getD qs i nowhere) (same-label i l) (same-parent i l) (same-depth (rooted ps cp) other legs-kept (depthOf ps i) i (omega arith) l))
 
 pub one-cave : OneCave
-one-cave = same-plan
+one-cave = record { one = same-plan }

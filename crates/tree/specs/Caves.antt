@@ -24,8 +24,9 @@ abbrev pub rootLabel : List Station → Label
 rootLabel ps = stationLabel ps 0
 
 -- r is the station with the lowest label
-abbrev pub Root : List Station → Label → Type 0
-Root ps r = Holds ps r × ((a : Label) → Holds ps a → (a ≡ r) ⊎ Lower r a)
+pub record Root (ps : List Station) (r : Label) : Type 0 where
+  pub there : Holds ps r
+  pub lowest : (a : Label) → Holds ps a → (a ≡ r) ⊎ Lower r a
 
 -- w is above x: it lies on the way from the root to x
 abbrev pub Above : List Station → Label → Label → Type 0
@@ -35,9 +36,10 @@ Above ps w x = OnWay (Leg ps) (rootLabel ps) x w
 abbrev pub Depth : List Station → Label → ℕ → Type 0
 Depth ps x d = (xs : List Label) × (Way (Leg ps) (rootLabel ps) xs x × (d ≡ length xs + 1))
 
--- h is the greatest depth
-abbrev pub Height : List Station → ℕ → Type 0
-Height ps h = ((x : Label) × Depth ps x h) × ((x : Label) (d : ℕ) → Depth ps x d → d ≤ h)
+-- h is the greatest depth: some station has it, and none is deeper
+pub record Height (ps : List Station) (h : ℕ) : Type 0 where
+  pub some : (x : Label) × Depth ps x h
+  pub most : (x : Label) (d : ℕ) → Depth ps x d → d ≤ h
 
 -- m is the deepest station above both u and v
 abbrev pub Deepest : List Station → Label → Label → Label → Type 0
@@ -47,16 +49,16 @@ Deepest ps m u v = Above ps m u × Above ps m v × ((w : Label) → Above ps w u
 abbrev pub AtDepth : List Station → Label → ℕ → Label → Type 0
 AtDepth ps v k a = (Above ps a v × Depth ps a k) ⊎ ((a ≡ v) × ((d : ℕ) × (Depth ps v d × (d < k))))
 
--- two plans with the same stations and the same legs
+-- the two plans have the same stations and the same legs
 pub record SameCave (ps qs : List Station) : Type 0 where
   pub there : (a : Label) → Holds ps a → Holds qs a
   pub here : (a : Label) → Holds qs a → Holds ps a
   pub legs : (a b : Label) → Leg ps a b → Leg qs a b
 
--- are one list of stations
-abbrev pub OneCave : Type 0
-OneCave = (ps qs : List Station) → Canonical ps → Canonical qs → SameCave ps qs → ps ≡ qs
+-- two plans with the same stations and the same legs have one list of stations
+pub record OneCave : Type 0 where
+  pub one : (ps qs : List Station) → Canonical ps → Canonical qs → SameCave ps qs → ps ≡ qs
 
 -- between any two stations of a plan there is a way, and only one
-abbrev pub OneWay : Type 0
-OneWay = (ps : List Station) → Canonical ps → (a b : Label) → Holds ps a → Holds ps b → (xs : List Label) × (Way (Leg ps) a xs b × ((ys : List Label) → Way (Leg ps) a ys b → ys ≡ xs))
+pub record OneWay : Type 0 where
+  pub one : (ps : List Station) → Canonical ps → (a b : Label) → Holds ps a → Holds ps b → (xs : List Label) × (Way (Leg ps) a xs b × ((ys : List Label) → Way (Leg ps) a ys b → ys ≡ xs))

@@ -25,7 +25,7 @@ use Rattle.tree.specs.WalkLaws.{FirstPlace}
 use Rattle.tree.proofs.Courses.{course-way}
 use Rattle.tree.proofs.Meaning.{root-held, above-held, above-is, depth-is, deepest-is, at-depth-is}
 use Rattle.tree.proofs.Walking.{first-place}
-use Rattle.ways.specs.Calls.{WayTold, CountsAs, Placed}
+use Rattle.ways.specs.Calls.{WayTold, CountsAs}
 
 -- station i has the label a
 abbrev pub At : List Station → Label → ℕ → Type 0
@@ -34,6 +34,12 @@ At ps a i = (i < length ps) × (stationLabel ps i ≡ a)
 pub held-decides : (ps : List Station) (a : Label) (o : Option ℕ) (r : Bool) → r ≡ isSome o → Found ps a o → Decides r (Holds ps a)
 held-decides ps a (Some i) r e f = ((λ _. (i, f)), (λ _. e))
 held-decides ps a None r e f = ((λ t. absurd (true≢false (sym t ∙ e))), (λ h. absurd (f h)))
+
+some-one : (m n : ℕ) → _≡_ {A = Option ℕ} (Some m) (Some n) → m ≡ n
+some-one m n e = cc
+
+some-none : (n : ℕ) → _≡_ {A = Option ℕ} (Some n) None → ⊥
+some-none n e = let z : _≡_ {A = ℕ} 0 1 = cc in omega arith
 
 module _ (ps : List Station) (h : Canonical ps) where
   pub told-depth : (a : Label) (i d : ℕ) → At ps a i → d ≡ depthOf ps i → Depth ps a d
@@ -71,13 +77,27 @@ module _ (ps : List Station) (h : Canonical ps) where
 
   pub told-way : (a b : Label) (before after : List Label) (u v n : ℕ) → At ps a u → At ps b v → take n after ≡ map (stationLabel ps) (courseFrom ps u v) → drop n after ≡ drop n before → n ≤ 1024 → WayTold ps a b before after (Some n)
   told-way a b before after u v n fu fv w d le =
-      let t = course-way ps h u v (fu .0) (fv .0) in (
-        (t .0, (w ∙ t .1 .0 ∙ ap (λ (z : Label). z ∷ t .0) (fu .1), subst (λ (z : Label). Way (Leg ps) z (t .0) b) (fu .1) (subst (λ (z : Label). Way (Leg ps) (stationLabel ps u) (t .0) z) (fv .1) (t .1 .1)))),
-        d,
-        le,
-      )
+      let t = course-way ps h u v (fu .0) (fv .0) in
+      record {
+        written = λ m e. subst (λ (k : ℕ). (xs : List Label) × ((take k after ≡ a ∷ xs) × Way (Leg ps) a xs b)) (some-one n m e)
+            (t .0, (w ∙ t .1 .0 ∙ ap (λ (z : Label). z ∷ t .0) (fu .1), subst (λ (z : Label). Way (Leg ps) z (t .0) b) (fu .1) (subst (λ (z : Label). Way (Leg ps) (stationLabel ps u) (t .0) z) (fv .1) (t .1 .1))));
+        behind = λ m e. subst (λ (k : ℕ). drop k after ≡ drop k before) (some-one n m e) d;
+        within = λ m e. subst (λ (k : ℕ). k ≤ 1024) (some-one n m e) le;
+        lacking = λ e. absurd (some-none n e);
+        untouched = λ e. absurd (some-none n e);
+      }
 
-  pub told-place : (a : Label) (o : Option ℕ) (i r : ℕ) → Found ps a o → ((j : ℕ) → o ≡ Some j → i ≡ j) → (o ≡ None → i ≡ 0) → r ≡ firstPlace i (walkFrom ps 0) → Placed ps a r
+  pub told-no-way : (a b : Label) (out : List Label) → (Holds ps a → Holds ps b → ⊥) → WayTold ps a b out out None
+  told-no-way a b out f =
+      record {
+        written = λ m e. absurd (some-none m (sym e));
+        behind = λ m e. refl;
+        within = λ m e. absurd (some-none m (sym e));
+        lacking = λ _. f;
+        untouched = λ _. refl;
+      }
+
+  pub told-place : (a : Label) (o : Option ℕ) (i r : ℕ) → Found ps a o → ((j : ℕ) → o ≡ Some j → i ≡ j) → (o ≡ None → i ≡ 0) → r ≡ firstPlace i (walkFrom ps 0) → (b : Label) → CountsAs ps a b → FirstPlace (walkLabels ps) b r
   told-place a (Some j) i r f some none e b counts =
       let same : i ≡ j = some j refl in
       ⊎-elim

@@ -48,4 +48,5 @@ module _ (ps : List Station) (h : Canonical ps) where
         b
 
   pub place-told : (a : Label) (o : Option ℕ) (i r : ℕ) (xs : List ℕ) → Found ps a o → i ≡ valueOr o 0 → xs ≡ walkFrom ps 0 → r ≡ firstPlace i xs → Placed ps a r
-  place-told a o i r xs f e w p = told-place ps h a o i r f (λ j q. e ∙ ap (λ (z : Option ℕ). valueOr z 0) q) (λ q. e ∙ ap (λ (z : Option ℕ). valueOr z 0) q) (p ∙ ap (firstPlace i) w)
+  place-told a o i r xs f e w p =
+      record { first = told-place ps h a o i r f (λ j q. e ∙ ap (λ (z : Option ℕ). valueOr z 0) q) (λ q. e ∙ ap (λ (z : Option ℕ). valueOr z 0) q) (p ∙ ap (firstPlace i) w) }

@@ -35,19 +35,22 @@ abbrev pub AtDepthTold : List Station → Label → ℕ → Option Label → Typ
 AtDepthTold ps a k (Some s) = AtDepth ps a k s
 AtDepthTold ps a k None = Holds ps a → 0 < k → ⊥
 
--- the way from a to b at the front of the buffer and what stands behind it kept; or nothing written where the plan
--- lacks one of them
-abbrev pub WayTold : List Station → Label → Label → List Label → List Label → Option ℕ → Type 0
-WayTold ps a b before after (Some n) = ((xs : List Label) × ((take n after ≡ a ∷ xs) × Way (Leg ps) a xs b)) × (drop n after ≡ drop n before) × (n ≤ 1024)
-WayTold ps a b before after None = (Holds ps a → Holds ps b → ⊥) × (after ≡ before)
+-- the way from a to b at the front of the buffer, by its count, and what stands behind it kept; or nothing written where
+-- the plan lacks one of them
+pub record WayTold (ps : List Station) (a b : Label) (before after : List Label) (r : Option ℕ) : Type 0 where
+  pub written : (n : ℕ) → r ≡ Some n → (xs : List Label) × ((take n after ≡ a ∷ xs) × Way (Leg ps) a xs b)
+  pub behind : (n : ℕ) → r ≡ Some n → drop n after ≡ drop n before
+  pub within : (n : ℕ) → r ≡ Some n → n ≤ 1024
+  pub lacking : r ≡ None → Holds ps a → Holds ps b → ⊥
+  pub untouched : r ≡ None → after ≡ before
 
 -- b stands for a: a itself, or the root where the plan lacks a
 abbrev pub CountsAs : List Station → Label → Label → Type 0
 CountsAs ps a b = (Holds ps a × (b ≡ a)) ⊎ ((Holds ps a → ⊥) × (b ≡ rootLabel ps))
 
 -- r is the first place on the walk of what stands for a
-abbrev pub Placed : List Station → Label → ℕ → Type 0
-Placed ps a r = (b : Label) → CountsAs ps a b → FirstPlace (walkLabels ps) b r
+pub record Placed (ps : List Station) (a : Label) (r : ℕ) : Type 0 where
+  pub first : (b : Label) → CountsAs ps a b → FirstPlace (walkLabels ps) b r
 
 -- the walk's entry at place k, counted from 1, or the root where the walk has no such place
 abbrev pub entryAt : List Station → ℕ → Label

@@ -1,13 +1,10 @@
 // Reading, writing, typing and ordering labels.
 ghost use mathlib.Core.Path.{_≡_};
-ghost use mathlib.Core.Bool.{true};
-ghost use mathlib.Core.Logic.{_↔_};
 ghost use mathlib.Core.List.{[], _∷_};
 ghost use Prim.Native.Nat.{ℕ, _^_, _<_, _≤_};
 ghost use lib.ListN.{length, getD};
-ghost use Rattle.std.specs.Options.{isSome};
 ghost use Rattle.std.specs.Orderings.{Decides};
-ghost use Rattle.label.specs.Labels.{bytesOf, labelOf, Shaped};
+ghost use Rattle.label.specs.Labels.{bytesOf, labelOf, ReadExactly, AllShaped};
 ghost use Rattle.label.specs.Orders.{bytesOrder, half, keyOf, KeysFollow};
 ghost use Rattle.label.specs.Typed.{typedLabel, typedByte, raised, keptLength};
 use super::Label;
@@ -74,31 +71,52 @@ fn four(a: u8, b: u8, c: u8, d: u8) -> u64
     ((a as u64 * 256 + b as u64) * 256 + c as u64) * 256 + d as u64
 }
 
+fn read_eight(bytes: &[u8]) -> Option<Label>
+    ensures value { λ r. ⌜ r ≡ labelOf (now (bytes .entry)) ⌝ }
+    ensures exact { λ r. ⌜ ReadExactly (now (bytes .entry)) r ⌝ }
+    ensures shaped { λ _. ⌜ AllShaped ⌝ }
+{
+    if bytes.len() != 8 {
+        return None;
+    }
+    of_eight(
+        bytes[0],
+        bytes[1],
+        bytes[2],
+        bytes[3],
+        bytes[4],
+        bytes[5],
+        bytes[6],
+        bytes[7],
+    )
+}
+
+fn is_same(a: Label, b: Label) -> bool
+    ensures { λ r. ⌜ Decides r (a ≡ b) ⌝ }
+{
+    a == b
+}
+
+fn compared(a: Label, b: Label) -> Ordering
+    ensures value { λ r. ⌜ r ≡ bytesOrder (bytesOf a) (bytesOf b) ⌝ }
+    ensures follows { λ _. ⌜ KeysFollow ⌝ }
+{
+    a.cmp(&b)
+}
+
 impl Label {
     // The label that stands in eight bytes.
     pub fn read(bytes: &[u8]) -> Option<Label>
         ensures value { λ r. ⌜ r ≡ labelOf (now (bytes .entry)) ⌝ }
-        ensures exact { λ r. ⌜ ((isSome r ≡ true) ↔ Shaped (now (bytes .entry))) ⌝ }
+        ensures exact { λ r. ⌜ ReadExactly (now (bytes .entry)) r ⌝ }
+        ensures shaped { λ _. ⌜ AllShaped ⌝ }
     {
-        if bytes.len() != 8 {
-            return None;
-        }
-        of_eight(
-            bytes[0],
-            bytes[1],
-            bytes[2],
-            bytes[3],
-            bytes[4],
-            bytes[5],
-            bytes[6],
-            bytes[7],
-        )
+        read_eight(bytes)
     }
 
     // Its eight bytes.
     pub fn bytes(self) -> [u8; 8]
         ensures value { λ r. ⌜ r ≡ bytesOf self ⌝ }
-        ensures shaped { λ r. ⌜ Shaped r ⌝ }
     {
         [
             self.b0,
@@ -137,20 +155,20 @@ impl Label {
     pub fn same(self, other: Label) -> bool
         ensures { λ r. ⌜ Decides r (self ≡ other) ⌝ }
     {
-        self == other
+        is_same(self, other)
     }
 
-    // The order byte by byte.
+    // The order byte by byte. The numbers that `key` gives are ordered as labels are, and tell all labels apart.
     pub fn order(self, other: Label) -> Ordering
-        ensures { λ r. ⌜ r ≡ bytesOrder (bytesOf self) (bytesOf other) ⌝ }
+        ensures value { λ r. ⌜ r ≡ bytesOrder (bytesOf self) (bytesOf other) ⌝ }
+        ensures follows { λ _. ⌜ KeysFollow ⌝ }
     {
-        self.cmp(&other)
+        compared(self, other)
     }
 
-    // The number of its eight bytes, high byte first: labels are ordered, and told apart, by it.
+    // The number of its eight bytes, high byte first.
     pub fn key(self) -> u64
         ensures value { λ r. ⌜ r ≡ keyOf self ⌝ }
-        ensures follows { λ _. ⌜ KeysFollow ⌝ }
     {
         four(self.b0, self.b1, self.b2, self.b3) * 4294967296
             + four(self.b4, self.b5, self.b6, self.b7)

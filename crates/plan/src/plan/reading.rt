@@ -44,13 +44,21 @@ impl Plan {
         Ok(Plan { stations })
     }
 
+    fn listed(&self) -> &[Station]
+        ensures value { λ r. ⌜ now r ≡ stationsOf (now (self .entry)) ⌝ }
+        ensures lawful { λ r. ⌜ Canonical (now r) ⌝ }
+        ensures one { λ _. ⌜ OneCave ⌝ }
+    {
+        self.stations.as_slice()
+    }
+
     // Its stations, in label order.
     pub fn stations(&self) -> &[Station]
         ensures value { λ r. ⌜ now r ≡ stationsOf (now (self .entry)) ⌝ }
         ensures lawful { λ r. ⌜ Canonical (now r) ⌝ }
         ensures one { λ _. ⌜ OneCave ⌝ }
     {
-        self.stations.as_slice()
+        self.listed()
     }
 
     // Takes the stations and legs of the records in the place of its own.
@@ -64,7 +72,7 @@ impl Plan {
         chart(labels, joined, &mut self.stations);
     }
 
-    fn load(&mut self, file: &[u8]) -> Result<(), PlanFault>
+    fn replace(&mut self, file: &[u8]) -> Result<(), PlanFault>
         ensures { λ r. ⌜ Loaded (readFile (now (file .entry))) (now (self .entry)) (now (self .exit)) r ⌝ }
     {
         let mut labels = [zero(); 1024];
@@ -72,6 +80,14 @@ impl Plan {
         let count = read(file, &mut labels, &mut joined)?;
         self.take(&labels[..count], &joined[..count]);
         Ok(())
+    }
+
+    fn load(&mut self, file: &[u8]) -> Result<(), PlanFault>
+        ensures value { λ r. ⌜ Loaded (readFile (now (file .entry))) (now (self .entry)) (now (self .exit)) r ⌝ }
+        ensures exactly { λ r. ⌜ Reads (now (file .entry)) (stationsOf (now (self .exit))) r ⌝ }
+        ensures one { λ _. ⌜ OneCave ⌝ }
+    {
+        self.replace(file)
     }
 
     // Reads a plan file. A file that is refused leaves the plan as it was.

@@ -1,8 +1,7 @@
 use native.Mathlib.Omega.{arith}
-use mathlib.Core.Path.{refl}
 use Rattle.tree.proofs.Named.{one-way}
 use Rattle.tree.proofs.Courses.{course-short}
-use Rattle.ways.proofs.Answering.{told-way}
+use Rattle.ways.proofs.Answering.{told-way, told-no-way}
 use Rattle.ways.proofs.asks.way.Needs as need
 
 pub returns-in-Some : need.returns-in-Some
@@ -16,4 +15,4 @@ returns-in-Some c =
     }
 
 pub returns-in-None : need.returns-in-None
-returns-in-None c = record { written = (c .in-None .ensures tt, refl); only = one-way }
+returns-in-None c = record { written = told-no-way (c .args .ps .now) (c .pre .lawful) (c .args .from) (c .args .to) (c .args .out .now) (c .in-None .ensures tt); only = one-way }

@@ -1,15 +1,11 @@
-use native.Mathlib.Omega.{arith}
-use lib.ListN.{length, take, length-take}
-use Rattle.records.proofs.Facts.{read-sound}
+use Rattle.tree.proofs.Same.{one-cave}
+use Rattle.plan.proofs.Loading.{loaded-reads}
 use Rattle.plan.proofs.plan.Plan.load.Needs as need
 
-pub take-requires : need.take-requires
-take-requires c κs =
-    let told = c .in-Continue-count .ensures tt .value in
-    let good = read-sound (c .args .file .now) (record { labels = take (c .in-Continue-count .count) (c .read .last .labels); joins = take (c .in-Continue-count .count) (c .read .last .joined) }) (told .2) in
+pub returns : need.returns
+returns c =
     record {
-      few = (simp length-take (omega arith), simp length-take (omega arith));
-      long = good .long;
-      earlier = good .earlier;
-      different = good .different;
+      value = c .replace .ensures;
+      exactly = loaded-reads (c .args .file .now) (c .args .self .now) (c .replace .last .self) (c .replace .result) (c .replace .ensures);
+      one = one-cave;
     }

@@ -4,7 +4,7 @@ use Rattle.tree.specs.declared.Station.{Station}
 use Rattle.tree.specs.Stations.{Canonical}
 use Rattle.tree.proofs.Same.{one-cave}
 use Rattle.plan.specs.Views.{canonical}
-use Rattle.plan.proofs.plan.Plan.stations.Needs as need
+use Rattle.plan.proofs.plan.Plan.listed.Needs as need
 
 pub returns : need.returns
 returns c =
