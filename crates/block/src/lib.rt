@@ -1,4 +1,6 @@
 // One block of a plan file: 512 bytes, with up to 31 records between its header and its check.
+#![tactic(auto)]
+
 mod fault;
 mod verdict;
 

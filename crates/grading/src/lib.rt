@@ -1,5 +1,7 @@
 // Graded broadcast: after three rounds every unit has for every sender a value and a grade 0, 1 or 2, whatever the
 // faulty units send to each receiver. One text for every kind of value.
+#![tactic(auto)]
+
 mod grade;
 mod grading;
 mod stage;

@@ -1,6 +1,7 @@
 -- Keys follow the order byte by byte, and tell labels apart.
-use Rattle.std.proofs.Common.{◌≡◌, ℕ, ◌+◌, ◌*◌, ◌<◌, ◌≤◌, ◌⊎◌, List, [], ◌∷◌, length, All, Ordering, Less, Equal, Greater, sym, refl, ap, ◌∙◌, subst, inl, inr, ⊎_elim, arith}
+use Rattle.std.proofs.Common.{◌≡◌, ℕ, ◌+◌, ◌*◌, ◌<◌, ◌≤◌, ◌⊎◌, List, [], ◌∷◌, length, Ordering, Less, Equal, Greater, sym, refl, ap, ◌∙◌, subst, inl, inr, ⊎_elim, arith}
 use Rattle.std.proofs.lemmas.Bool.{cases_order, le-ltb, lt-ltb, cond-false, cond-true}
+use Rattle.std.specs.List.{AllByRecursion}
 use Rattle.label.specs.Labels.{bytes_of}
 use Rattle.label.specs.Orders.{bytes_order, Lower, key_of, KeysFollow}
 use Rattle.label.specs.declared.label.Label.{Label}
@@ -18,7 +19,7 @@ data Lies (xs ys : List ℕ) : Type 0 where
   same : xs ≡ ys → bytes_order xs ys ≡ Equal → Lies xs ys
   more : bytes_order xs ys ≡ Greater → ((a : ℕ) → num a ys < num a xs) → Lies xs ys
 
-num_lt : (xs ys : List ℕ) (a b : ℕ) → All (λ x. x < 256) xs → length xs ≡ length ys → a < b → num a xs < num b ys
+num_lt : (xs ys : List ℕ) (a b : ℕ) → AllByRecursion (λ x. x < 256) xs → length xs ≡ length ys → a < b → num a xs < num b ys
 num_lt [] [] a b s e h = h
 num_lt [] (y ∷ ys) a b s e h = absurd (omega arith)
 num_lt (x ∷ xs) [] a b s e h = absurd (omega arith)
@@ -33,7 +34,7 @@ step_more x y xs ys h = cond-false _ Less _ (le-ltb x y (omega arith)) ∙ cond-
 step_same : (x y : ℕ) (xs ys : List ℕ) → x ≡ y → bytes_order (x ∷ xs) (y ∷ ys) ≡ bytes_order xs ys
 step_same x y xs ys h = cond-false _ Less _ (le-ltb x y (omega arith)) ∙ cond-false _ Greater _ (le-ltb y x (omega arith))
 
-lies : (xs ys : List ℕ) → All (λ x. x < 256) xs → All (λ y. y < 256) ys → length xs ≡ length ys → Lies xs ys
+lies : (xs ys : List ℕ) → AllByRecursion (λ x. x < 256) xs → AllByRecursion (λ y. y < 256) ys → length xs ≡ length ys → Lies xs ys
 lies [] [] s t e = same refl refl
 lies [] (y ∷ ys) s t e = absurd (omega arith)
 lies (x ∷ xs) [] s t e = absurd (omega arith)

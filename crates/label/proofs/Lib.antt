@@ -1,3 +1,4 @@
+pub mod Elements
 pub mod Scanning
 pub mod Shapes
 pub mod Reading

@@ -1,7 +1,8 @@
 -- Lawful bytes: each is below 256, and they are sign bytes and then blanks.
-use Rattle.std.proofs.Common.{◌≡◌, ℕ, zero, suc, ◌+◌, ◌<◌, ◌≤◌, Bool, true, false, cond, ◌&&◌, ◌↔◌, List, [], ◌∷◌, length, get_or, All, sym, refl, ap, ◌∙◌, ⊎_elim, arith}
+use Rattle.std.proofs.Common.{◌≡◌, ℕ, zero, suc, ◌+◌, ◌<◌, ◌≤◌, Bool, true, false, cond, ◌&&◌, ◌↔◌, List, [], ◌∷◌, length, get_or, sym, refl, ap, ◌∙◌, ⊎_elim, arith}
 use Rattle.std.proofs.lemmas.Bool.Decides.{nat_tests}
 use Rattle.std.proofs.lemmas.Bool.{and_parts, and_from, eqb-true, eq-eqb, both_ways}
+use Rattle.std.specs.List.{AllByRecursion}
 use Rattle.label.specs.Labels.{Shaped}
 use Rattle.label.specs.Signs.{sign, blank, blanks, signs_then_blanks, lawful}
 
@@ -13,20 +14,20 @@ sign_small b e = grind (arith, nat_tests)
 pub blank_no_sign : sign 32 ≡ false
 blank_no_sign = refl
 
-blanks_small : (bs : List ℕ) → blanks bs ≡ true → All (λ b. b < 256) bs
+blanks_small : (bs : List ℕ) → blanks bs ≡ true → AllByRecursion (λ b. b < 256) bs
 blanks_small [] e = tt
 blanks_small (b ∷ bs) e = let p = and_parts (blank b) (blanks bs) e in (omega (arith, eqb-true b 32 p.0), blanks_small bs p.1)
 
-signs_small : (bs : List ℕ) → signs_then_blanks bs ≡ true → All (λ b. b < 256) bs
+signs_small : (bs : List ℕ) → signs_then_blanks bs ≡ true → AllByRecursion (λ b. b < 256) bs
 signs_small [] e = tt
 signs_small (b ∷ bs) e = way (sign b) refl e (signs_small bs)
   where
     way : (t : Bool) → sign b ≡ t → cond t (signs_then_blanks bs) (blanks (b ∷ bs)) ≡ true
-        → (signs_then_blanks bs ≡ true → All (λ x. x < 256) bs) → All (λ x. x < 256) (b ∷ bs)
+        → (signs_then_blanks bs ≡ true → AllByRecursion (λ x. x < 256) bs) → AllByRecursion (λ x. x < 256) (b ∷ bs)
     way true s q rest = (sign_small b s, rest q)
     way false s q rest = blanks_small (b ∷ bs) q
 
-pub lawful_small : (bs : List ℕ) → lawful bs ≡ true → All (λ b. b < 256) bs
+pub lawful_small : (bs : List ℕ) → lawful bs ≡ true → AllByRecursion (λ b. b < 256) bs
 lawful_small [] e = tt
 lawful_small (b ∷ bs) e = let p = and_parts (sign b) (signs_then_blanks bs) e in (sign_small b p.0, signs_small bs p.1)
 

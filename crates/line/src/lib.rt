@@ -1,5 +1,7 @@
 // Line agreements: units that hold positions on one line come within one place of each other, between the least and the
 // greatest honest position, whatever the faulty units send. Who implements the trait and proves its laws has a line.
+#![tactic(auto)]
+
 ghost use Rattle.std.specs.Prelude.{◌≡◌};
 ghost use Rattle.wire.specs.Frames.{carried, box_of};
 ghost use Rattle.line.specs.Models.{LineModel, Inside, Agree, Over, Counted, Short, Capped};

@@ -1,4 +1,6 @@
 // The two line agreements that are built: the halving line and the graded line.
+#![tactic(auto)]
+
 mod graded;
 mod halving;
 

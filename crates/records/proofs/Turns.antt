@@ -1,8 +1,9 @@
 -- One turn of the loops over records and blocks.
-use Rattle.std.proofs.Common.{◌≡◌, ℕ, zero, suc, ◌+◌, ◌-◌, ◌*◌, ◌<◌, ◌≤◌, Bool, true, false, cond, not, ◌||◌, eqb, ltb, List, [], ◌∷◌, ◌++◌, length, get_or, take, drop, set, Ok, Err, All, Option, Result, sym, refl, ap, ◌∙◌, subst, append_assoc, add-one, arith}
-use Rattle.std.proofs.lemmas.List.Elements.{All-append}
+use Rattle.std.proofs.Common.{◌≡◌, ℕ, zero, suc, ◌+◌, ◌-◌, ◌*◌, ◌<◌, ◌≤◌, Bool, true, false, cond, not, ◌||◌, eqb, ltb, List, [], ◌∷◌, ◌++◌, length, get_or, take, drop, set, Ok, Err, Option, Result, sym, refl, ap, ◌∙◌, subst, append_assoc, add-one, arith}
 use Rattle.std.proofs.lemmas.List.{drop_more, drop_all, take_more_set}
 use Rattle.std.proofs.lemmas.Bool.{ltb-false}
+use Rattle.std.specs.List.{AllByRecursion}
+use Rattle.label.proofs.Elements.{AllByRecursion-append}
 use Rattle.label.specs.Labels.{label_of}
 use Rattle.label.specs.declared.label.Label.{Label}
 use Rattle.block.specs.Blocks.{block_verdict, check_sum, word, blank_from}
@@ -85,17 +86,17 @@ verdict_small bs place last byte c e = go (not (eqb (check_sum bs) (word bs 510)
     go false false false s false false q = let k : c ≡ get_or bs 2 0 = cc in omega (arith, ltb-false 31 (get_or bs 2 0) s)
 
 -- the records lie within the file
-places_within : (p n top : ℕ) → p + 16 * n ≤ top → All (λ p. p + 16 ≤ top) (places_of p n)
+places_within : (p n top : ℕ) → p + 16 * n ≤ top → AllByRecursion (λ p. p + 16 ≤ top) (places_of p n)
 places_within p zero top h = tt
 places_within p (suc n) top h = (omega arith, places_within (p + 16) n top (omega arith))
 
-pub blocks_within : (file : List ℕ) (n b m top : ℕ) (ps qs : List ℕ) → 512 * (b + m) ≤ top → All (λ p. p + 16 ≤ top) ps → blocks_from file n b m ps ≡ Ok qs → All (λ p. p + 16 ≤ top) qs
-blocks_within file n b zero top ps qs h a e = let same : ps ≡ qs = cc in subst (All (λ p. p + 16 ≤ top)) same a
+pub blocks_within : (file : List ℕ) (n b m top : ℕ) (ps qs : List ℕ) → 512 * (b + m) ≤ top → AllByRecursion (λ p. p + 16 ≤ top) ps → blocks_from file n b m ps ≡ Ok qs → AllByRecursion (λ p. p + 16 ≤ top) qs
+blocks_within file n b zero top ps qs h a e = let same : ps ≡ qs = cc in subst (AllByRecursion (λ p. p + 16 ≤ top)) same a
 blocks_within file n b (suc m) top ps qs h a e = go (block_verdict (block_at file b) b (eqb (b + 1) n) (512 * b)) refl e (λ us au f. blocks_within file n (b + 1) m top us qs (omega arith) au f)
   where
     go : (v : Result ℕ BlockFault) → block_verdict (block_at file b) b (eqb (b + 1) n) (512 * b) ≡ v → placed (512 * b + 4) ps v (blocks_from file n (b + 1) m) ≡ Ok qs
-        → ((us : List ℕ) → All (λ p. p + 16 ≤ top) us → blocks_from file n (b + 1) m us ≡ Ok qs → All (λ p. p + 16 ≤ top) qs) → All (λ p. p + 16 ≤ top) qs
-    go (Ok c) q f rec = rec (ps ++ places_of (512 * b + 4) c) (All-append (λ p. p + 16 ≤ top) ps (places_of (512 * b + 4) c) a (places_within (512 * b + 4) c top (omega (arith, verdict_small (block_at file b) b (eqb (b + 1) n) (512 * b) c (sym q))))) f
+        → ((us : List ℕ) → AllByRecursion (λ p. p + 16 ≤ top) us → blocks_from file n (b + 1) m us ≡ Ok qs → AllByRecursion (λ p. p + 16 ≤ top) qs) → AllByRecursion (λ p. p + 16 ≤ top) qs
+    go (Ok c) q f rec = rec (ps ++ places_of (512 * b + 4) c) (AllByRecursion-append (λ p. p + 16 ≤ top) ps (places_of (512 * b + 4) c) a (places_within (512 * b + 4) c top (omega (arith, verdict_small (block_at file b) b (eqb (b + 1) n) (512 * b) c (sym q))))) f
     go (Err x) q f rec = let z : ◌≡◌ {A = ℕ} 0 1 = cc in absurd (omega arith)
 
 -- the halves of a record as the code cuts them out

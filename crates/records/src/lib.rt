@@ -1,5 +1,7 @@
 // A plan file of 1 to 34 blocks, read into its records: the stations' labels, and for each the earlier record whose
 // station it is joined to.
+#![tactic(auto)]
+
 mod fault;
 mod file;
 mod record;

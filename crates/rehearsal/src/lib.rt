@@ -1,4 +1,6 @@
 // Worked examples as one proved table, and tests that run them through the public calls.
+#![tactic(auto)]
+
 ghost use Rattle.std.specs.Prelude.{◌≡◌, length};
 ghost use Rattle.rehearsal.specs.Cave.{example_stations};
 ghost use Rattle.rehearsal.specs.Table.{Worked};

@@ -1,4 +1,6 @@
 // The text work of the program: bytes in hex, the commands of a script, and a refusal as a sentence.
+#![tactic(auto)]
+
 mod command;
 mod hex;
 mod sentence;

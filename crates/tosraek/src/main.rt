@@ -1,4 +1,6 @@
 // Shows plan files and labels, and runs scripts of commands.
+#![tactic(auto)]
+
 mod args;
 mod example;
 mod exchange;

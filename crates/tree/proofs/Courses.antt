@@ -1,6 +1,7 @@
 -- The course from one station to another is the way between them, and has at most as many stations as the plan.
-use Rattle.std.proofs.Common.{◌≡◌, ℕ, zero, suc, ◌+◌, ◌-◌, ◌<◌, ◌≤◌, ◌⊎◌, List, [], ◌∷◌, ◌++◌, map, length, get_or, All, sym, refl, ap, ◌∙◌, subst, inl, inr, ⊎_elim, arith}
-use Rattle.std.proofs.lemmas.List.Elements.{All-get_or}
+use Rattle.std.proofs.Common.{◌≡◌, ℕ, zero, suc, ◌+◌, ◌-◌, ◌<◌, ◌≤◌, ◌⊎◌, List, [], ◌∷◌, ◌++◌, map, length, get_or, sym, refl, ap, ◌∙◌, subst, inl, inr, ⊎_elim, arith}
+use Rattle.std.specs.List.{AllByRecursion}
+use Rattle.label.proofs.Elements.{AllByRecursion-get_or}
 use Rattle.label.specs.declared.label.Label.{Label}
 use Rattle.tree.specs.declared.Station.{Station}
 use Rattle.tree.specs.Ways.{On, Apart, Goes, Way}
@@ -64,5 +65,5 @@ module _ (ps : List Station) (h : Canonical ps) (u v : ℕ) (lu : u < length ps)
   course_short =
       let t = course_is (rooted ps h) (depth_of ps u + depth_of ps v) u v lu lv (omega arith) in
       let xs : List ℕ = u ∷ t.0.0 in
-      let inn : All (λ x. x < length ps) (u ∷ t.0.0) = (lu, goes_inside (rooted ps h) u v t.0.0 t.0.1.0.0) in
-      omega (arith, ap length t.1, at_most (length (u ∷ t.0.0)) (length ps) (λ k. get_or (u ∷ t.0.0) k 0) (λ k l. All-get_or (λ x. x < length ps) (u ∷ t.0.0) k 0 l inn) (apart_once (u ∷ t.0.0) t.0.1.0.1))
+      let inn : AllByRecursion (λ x. x < length ps) (u ∷ t.0.0) = (lu, goes_inside (rooted ps h) u v t.0.0 t.0.1.0.0) in
+      omega (arith, ap length t.1, at_most (length (u ∷ t.0.0)) (length ps) (λ k. get_or (u ∷ t.0.0) k 0) (λ k l. AllByRecursion-get_or (λ x. x < length ps) (u ∷ t.0.0) k 0 l inn) (apart_once (u ∷ t.0.0) t.0.1.0.1))

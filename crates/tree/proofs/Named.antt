@@ -1,6 +1,7 @@
 -- Ways on labels: what holds of numbered stations holds of their labels, and back.
-use Rattle.std.proofs.Common.{◌≡◌, ℕ, zero, suc, ◌+◌, ◌-◌, ◌<◌, ◌≤◌, ◌⊎◌, ◌↔◌, List, [], ◌∷◌, map, length, get_or, All, sym, refl, ap, ◌∙◌, subst, inl, inr, ⊎_elim, arith}
+use Rattle.std.proofs.Common.{◌≡◌, ℕ, zero, suc, ◌+◌, ◌-◌, ◌<◌, ◌≤◌, ◌⊎◌, ◌↔◌, List, [], ◌∷◌, map, length, get_or, sym, refl, ap, ◌∙◌, subst, inl, inr, ⊎_elim, arith}
 use Rattle.std.proofs.lemmas.Bool.{cases_lt, cases_eq}
+use Rattle.std.specs.List.{AllByRecursion}
 use Rattle.label.specs.declared.label.Label.{Label}
 use Rattle.label.specs.Orders.{key_of}
 use Rattle.tree.specs.declared.Station.{Station}
@@ -14,7 +15,7 @@ use Rattle.tree.proofs.Ways.{First, first, way_there, way_only, above_way}
 -- names given to numbered stations carry ways over, both ways -----------------------------------
 
 abbrev pub Inside : ℕ → List ℕ → Type 0
-Inside n xs = All (λ x. x < n) xs
+Inside n xs = AllByRecursion (λ x. x < n) xs
 
 module _ {X : Type 0} (f : ℕ → X) where
   on_named : (w : ℕ) (xs : List ℕ) → On w xs → On (f w) (map f xs)

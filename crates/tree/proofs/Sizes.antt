@@ -1,8 +1,9 @@
 -- How many entries a walk has: two for each station below its first, less one.
-use Rattle.std.proofs.Common.{◌≡◌, ℕ, zero, suc, ◌+◌, ◌-◌, ◌*◌, ◌<◌, ◌≤◌, Bool, true, false, cond, ◌&&◌, eqb, leb, ◌⊎◌, List, [], ◌∷◌, ◌++◌, length, Decides, All, filter, sym, refl, ap, ◌∙◌, subst, inl, inr, ⊎_elim, arith, length-append}
+use Rattle.std.proofs.Common.{◌≡◌, ℕ, zero, suc, ◌+◌, ◌-◌, ◌*◌, ◌<◌, ◌≤◌, Bool, true, false, cond, ◌&&◌, eqb, leb, ◌⊎◌, List, [], ◌∷◌, ◌++◌, length, Decides, filter, sym, refl, ap, ◌∙◌, subst, inl, inr, ⊎_elim, arith, length-append}
 use Rattle.std.specs.List.{range_with_len, flat_map}
 use Rattle.std.proofs.lemmas.Bool.{cases_lt, cases_eq, eqb-true, eq-eqb, ne_eqb, le-leb, and_from, and_parts, leb-true}
-use Rattle.std.proofs.lemmas.List.Elements.{All-weaker}
+use Rattle.std.specs.List.{AllByRecursion}
+use Rattle.label.proofs.Elements.{AllByRecursion-weaker}
 use Rattle.tree.specs.Trees.{Rooted, climb, AboveAt}
 use Rattle.tree.specs.Ways.{On}
 use Rattle.tree.specs.Walks.{branches, walk_of}
@@ -18,7 +19,7 @@ abbrev pub bit : Bool → ℕ
 bit true = 1
 bit false = 0
 
-total_same : (f g : ℕ → ℕ) (xs : List ℕ) → All (λ x. f x ≡ g x) xs → total f xs ≡ total g xs
+total_same : (f g : ℕ → ℕ) (xs : List ℕ) → AllByRecursion (λ x. f x ≡ g x) xs → total f xs ≡ total g xs
 total_same f g [] a = refl
 total_same f g (x ∷ xs) a = let e = a.0 in let m = total_same f g xs a.1 in omega arith
 
@@ -38,17 +39,17 @@ total_double : (f : ℕ → ℕ) (xs : List ℕ) → total (λ x. 2 * f x) xs �
 total_double f [] = refl
 total_double f (x ∷ xs) = let m = total_double f xs in omega arith
 
-total_none : (p : ℕ → Bool) (xs : List ℕ) → All (λ x. p x ≡ false) xs → total (λ x. bit (p x)) xs ≡ 0
+total_none : (p : ℕ → Bool) (xs : List ℕ) → AllByRecursion (λ x. p x ≡ false) xs → total (λ x. bit (p x)) xs ≡ 0
 total_none p [] a = refl
 total_none p (x ∷ xs) a = let e = ap bit a.0 in let m = total_none p xs a.1 in omega arith
 
-total_one : (p : ℕ → Bool) (o : ℕ) (xs : List ℕ) → Distinct xs → On o xs → p o ≡ true → All (λ x. (x ≡ o → ⊥) → p x ≡ false) xs → total (λ x. bit (p x)) xs ≡ 1
+total_one : (p : ℕ → Bool) (o : ℕ) (xs : List ℕ) → Distinct xs → On o xs → p o ≡ true → AllByRecursion (λ x. (x ≡ o → ⊥) → p x ≡ false) xs → total (λ x. bit (p x)) xs ≡ 1
 total_one p o [] d m t a = absurd m
 total_one p o (x ∷ xs) d m t a =
     ⊎_elim
     (λ (e : x ≡ o).
     let one = ap bit (ap p e ∙ t) in
-    let none = total_none p xs (rest xs (subst (λ (y : ℕ). All (λ z. z ≡ y → ⊥) xs) e d.0) a.1) in
+    let none = total_none p xs (rest xs (subst (λ (y : ℕ). AllByRecursion (λ z. z ≡ y → ⊥) xs) e d.0) a.1) in
     omega arith)
     (λ (ne : x ≡ o → ⊥).
     let nil = ap bit (a.0 ne) in
@@ -56,11 +57,11 @@ total_one p o (x ∷ xs) d m t a =
     omega arith)
     (cases_eq x o)
   where
-    rest : (ks : List ℕ) → All (λ z. z ≡ o → ⊥) ks → All (λ z. (z ≡ o → ⊥) → p z ≡ false) ks → All (λ z. p z ≡ false) ks
+    rest : (ks : List ℕ) → AllByRecursion (λ z. z ≡ o → ⊥) ks → AllByRecursion (λ z. (z ≡ o → ⊥) → p z ≡ false) ks → AllByRecursion (λ z. p z ≡ false) ks
     rest [] b c = tt
     rest (k ∷ ks) b c = (c.0 b.0, rest ks b.1 c.1)
 
-pub mem_all : (P : ℕ → Type 0) (o : ℕ) (xs : List ℕ) → On o xs → All P xs → P o
+pub mem_all : (P : ℕ → Type 0) (o : ℕ) (xs : List ℕ) → On o xs → AllByRecursion P xs → P o
 mem_all P o [] m a = absurd m
 mem_all P o (x ∷ xs) m a = ⊎_elim (λ (e : x ≡ o). subst P e a.0) (λ (h : On o xs). mem_all P o xs h a.1) m
 
@@ -134,7 +135,7 @@ module _ {n : ℕ} {up depth : ℕ → ℕ} (r : Rooted n up depth) where
       (λ (e : i ≡ x).
       let a = ap bit (is_above i x (subst (AboveAt up depth i) e (above_self r i))) in
       let b = ap bit (eq-eqb i x e) in
-      let z = total_none (λ j. aboveb up depth j x) (branches n up i) (All-weaker (λ j. (0 < j) × (j < n) × (up j ≡ i)) (λ j. aboveb up depth j x ≡ false) (λ j h. not_above j x (λ p. omega (arith, r.deeper j h.0 h.1, ap depth h.2, ap depth e))) _ (branch_of r i)) in
+      let z = total_none (λ j. aboveb up depth j x) (branches n up i) (AllByRecursion-weaker (λ j. (0 < j) × (j < n) × (up j ≡ i)) (λ j. aboveb up depth j x ≡ false) (λ j h. not_above j x (λ p. omega (arith, r.deeper j h.0 h.1, ap depth h.2, ap depth e))) _ (branch_of r i)) in
       omega arith)
       (λ (ne : i ≡ x → ⊥).
       let b = ap bit (ne_eqb i x ne) in
@@ -144,7 +145,7 @@ module _ {n : ℕ} {up depth : ℕ → ℕ} (r : Rooted n up depth) where
       let deep : depth i < depth x = ⊎_elim (λ (q : depth i < depth x). q) (λ (q : depth x ≤ depth i). absurd (ne (above_level r i x p q))) (cases_lt (depth i) (depth x)) in
       let f = branch_above i x li lx p deep in
       let z = total_one (λ j. aboveb up depth j x) f.0 (branches n up i) (kept_apart (λ j. eqb (up j) i) 1 (n - 1)) f.1.0 (is_above f.0 x f.1.2)
-      (All-weaker (λ j. (0 < j) × (j < n) × (up j ≡ i)) (λ j. (j ≡ f.0 → ⊥) → aboveb up depth j x ≡ false)
+      (AllByRecursion-weaker (λ j. (0 < j) × (j < n) × (up j ≡ i)) (λ j. (j ≡ f.0 → ⊥) → aboveb up depth j x ≡ false)
       (λ j h no'. not_above j x (λ q.
       let dj = r.deeper j h.0 h.1 in
       let di = ap depth h.2 in
@@ -153,28 +154,28 @@ module _ {n : ℕ} {up depth : ℕ → ℕ} (r : Rooted n up depth) where
       omega arith)
       (λ (q : AboveAt up depth i x → ⊥).
       let a = ap bit (not_above i x q) in
-      let z = total_none (λ j. aboveb up depth j x) (branches n up i) (All-weaker (λ j. (0 < j) × (j < n) × (up j ≡ i)) (λ j. aboveb up depth j x ≡ false) (λ j h. not_above j x (λ p. q (above_trans r i j x (subst (λ (y : ℕ). AboveAt up depth y j) h.2 (above_up r j h.0 h.1)) p))) _ (branch_of r i)) in
+      let z = total_none (λ j. aboveb up depth j x) (branches n up i) (AllByRecursion-weaker (λ j. (0 < j) × (j < n) × (up j ≡ i)) (λ j. aboveb up depth j x ≡ false) (λ j h. not_above j x (λ p. q (above_trans r i j x (subst (λ (y : ℕ). AboveAt up depth y j) h.2 (above_up r j h.0 h.1)) p))) _ (branch_of r i)) in
       omega arith)
       (above_either r i x))
       (cases_eq i x)
 
-  all_stations : All (λ x. x < n) (range_with_len 0 n)
-  all_stations = subst (All (λ x. x < n)) (counting_kept 0 n) (All-weaker (Kept (λ _. true) 0 n) (λ x. x < n) (λ x h. omega arith) _ (kept_from (λ _. true) 0 n))
+  all_stations : AllByRecursion (λ x. x < n) (range_with_len 0 n)
+  all_stations = subst (AllByRecursion (λ x. x < n)) (counting_kept 0 n) (AllByRecursion-weaker (Kept (λ _. true) 0 n) (λ x. x < n) (λ x h. omega arith) _ (kept_from (λ _. true) 0 n))
 
   pub below_step : (i : ℕ) → i < n → below n up depth i ≡ 1 + total (below n up depth) (branches n up i)
   below_step i li =
-      let one = total_one (λ x. eqb i x) i (range_with_len 0 n) (subst Distinct (counting_kept 0 n) (kept_apart (λ _. true) 0 n)) (subst (On i) (counting_kept 0 n) (kept_mem (λ _. true) i 0 n (omega arith) (omega arith) refl)) (eq-eqb i i refl) (All-weaker (λ x. x < n) (λ x. (x ≡ i → ⊥) → eqb i x ≡ false) (λ x h ne. ne_eqb i x (λ e. ne (sym e))) _ all_stations) in
-      total_same _ _ (range_with_len 0 n) (All-weaker (λ x. x < n) (λ x. bit (aboveb up depth i x) ≡ bit (eqb i x) + total (λ j. bit (aboveb up depth j x)) (branches n up i)) (λ x h. point i x li h) _ all_stations)
+      let one = total_one (λ x. eqb i x) i (range_with_len 0 n) (subst Distinct (counting_kept 0 n) (kept_apart (λ _. true) 0 n)) (subst (On i) (counting_kept 0 n) (kept_mem (λ _. true) i 0 n (omega arith) (omega arith) refl)) (eq-eqb i i refl) (AllByRecursion-weaker (λ x. x < n) (λ x. (x ≡ i → ⊥) → eqb i x ≡ false) (λ x h ne. ne_eqb i x (λ e. ne (sym e))) _ all_stations) in
+      total_same _ _ (range_with_len 0 n) (AllByRecursion-weaker (λ x. x < n) (λ x. bit (aboveb up depth i x) ≡ bit (eqb i x) + total (λ j. bit (aboveb up depth j x)) (branches n up i)) (λ x h. point i x li h) _ all_stations)
       ∙ total_add (λ x. bit (eqb i x)) (λ x. total (λ j. bit (aboveb up depth j x)) (branches n up i)) (range_with_len 0 n)
       ∙ (let s = total_swap (λ j x. bit (aboveb up depth j x)) (branches n up i) (range_with_len 0 n) in omega arith)
 
   pub walk_size : (f i : ℕ) → i < n → n ≤ depth i + f → length (walk_of n up f i) + 1 ≡ 2 * below n up depth i
   walk_size zero i l h =
-      let z = total_same (below n up depth) (λ _. 0) (branches n up i) (All-weaker (λ j. (0 < j) × (j < n) × (up j ≡ i)) (λ j. below n up depth j ≡ 0) (λ j b. omega (arith, r.deeper j b.0 b.1, shallow j b.1, ap depth b.2)) _ (branch_of r i)) in
+      let z = total_same (below n up depth) (λ _. 0) (branches n up i) (AllByRecursion-weaker (λ j. (0 < j) × (j < n) × (up j ≡ i)) (λ j. below n up depth j ≡ 0) (λ j b. omega (arith, r.deeper j b.0 b.1, shallow j b.1, ap depth b.2)) _ (branch_of r i)) in
       omega (arith, below_step i l, total_zero (branches n up i))
   walk_size (suc f) i l h =
       let each = total_same (λ j. length (walk_of n up f j ++ i ∷ [])) (λ j. 2 * below n up depth j) (branches n up i)
-      (All-weaker (λ j. (0 < j) × (j < n) × (up j ≡ i)) (λ j. length (walk_of n up f j ++ i ∷ []) ≡ 2 * below n up depth j)
+      (AllByRecursion-weaker (λ j. (0 < j) × (j < n) × (up j ≡ i)) (λ j. length (walk_of n up f j ++ i ∷ []) ≡ 2 * below n up depth j)
       (λ j b. length-append (walk_of n up f j) (i ∷ []) ∙ walk_size f j b.1 (omega (arith, r.deeper j b.0 b.1, ap depth b.2))) _ (branch_of r i)) in
       omega (arith, below_step i l, each, length_joined (λ j. walk_of n up f j ++ i ∷ []) (branches n up i), total_double (below n up depth) (branches n up i))
 

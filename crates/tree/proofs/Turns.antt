@@ -1,9 +1,10 @@
 -- One turn of the walk over the branches of a station.
-use Rattle.std.proofs.Common.{◌≡◌, ℕ, zero, suc, ◌+◌, ◌-◌, ◌*◌, ◌<◌, ◌≤◌, Bool, true, false, cond, eqb, List, [], ◌∷◌, ◌++◌, length, get_or, take, set, All, filter, sym, refl, ap, ◌∙◌, subst, append_assoc, append-nil, arith, length-append}
+use Rattle.std.proofs.Common.{◌≡◌, ℕ, zero, suc, ◌+◌, ◌-◌, ◌*◌, ◌<◌, ◌≤◌, Bool, true, false, cond, eqb, List, [], ◌∷◌, ◌++◌, length, get_or, take, set, filter, sym, refl, ap, ◌∙◌, subst, append_assoc, append-nil, arith, length-append}
 use Rattle.std.specs.List.{range_with_len, flat_map}
 use Rattle.std.proofs.lemmas.Bool.{eq-eqb, ne_eqb}
 use Rattle.std.proofs.lemmas.List.{take_more_set}
-use Rattle.std.proofs.lemmas.List.Elements.{All-weaker}
+use Rattle.std.specs.List.{AllByRecursion}
+use Rattle.label.proofs.Elements.{AllByRecursion-weaker}
 use Rattle.tree.specs.declared.Station.{Station}
 use Rattle.tree.specs.Trees.{Rooted}
 use Rattle.tree.specs.Stations.{parent_of, depth_of, Canonical, rooted}
@@ -15,11 +16,11 @@ use Rattle.tree.proofs.Sizes.{below, below_falls, below_some, shallow}
 unfoldable pub tour_left : List Station → ℕ → ℕ → List ℕ
 tour_left ps i j = flat_map (λ k. walk_from ps k ++ i ∷ []) (filter (λ k. eqb (parent_of ps k) i) (range_with_len j (length ps - j)))
 
-joined_none : (g : ℕ → List ℕ) (js : List ℕ) → All (λ j. ⊥) js → [] ≡ flat_map g js
+joined_none : (g : ℕ → List ℕ) (js : List ℕ) → AllByRecursion (λ j. ⊥) js → [] ≡ flat_map g js
 joined_none g [] a = refl
 joined_none g (j ∷ js) a = absurd a.0
 
-joined_same : (g h : ℕ → List ℕ) (js : List ℕ) → All (λ j. g j ≡ h j) js → flat_map g js ≡ flat_map h js
+joined_same : (g h : ℕ → List ℕ) (js : List ℕ) → AllByRecursion (λ j. g j ≡ h j) js → flat_map g js ≡ flat_map h js
 joined_same g h [] a = refl
 joined_same g h (j ∷ js) a = let e = a.0 in let m = joined_same g h js a.1 in cc
 
@@ -31,9 +32,9 @@ module _ (ps : List Station) (lawful : Canonical ps) where
     where
       go : (f : ℕ) → length ps - depth_of ps i ≡ f → walk_of (length ps) (parent_of ps) f i ≡ i ∷ flat_map (λ j. walk_of (length ps) (parent_of ps) (length ps - depth_of ps j) j ++ i ∷ []) (branches (length ps) (parent_of ps) i)
       go zero e = ap (λ (xs : List ℕ). i ∷ xs) (joined_none _ (branches (length ps) (parent_of ps) i)
-          (All-weaker (λ j. (0 < j) × (j < length ps) × (parent_of ps j ≡ i)) (λ j. ⊥) (λ j h. omega (arith, (rooted ps lawful).deeper j h.0 h.1, shallow (rooted ps lawful) j h.1, ap (depth_of ps) h.2)) _ (branch_of (rooted ps lawful) i)))
+          (AllByRecursion-weaker (λ j. (0 < j) × (j < length ps) × (parent_of ps j ≡ i)) (λ j. ⊥) (λ j h. omega (arith, (rooted ps lawful).deeper j h.0 h.1, shallow (rooted ps lawful) j h.1, ap (depth_of ps) h.2)) _ (branch_of (rooted ps lawful) i)))
       go (suc f) e = ap (λ (xs : List ℕ). i ∷ xs) (joined_same _ _ (branches (length ps) (parent_of ps) i)
-          (All-weaker (λ j. (0 < j) × (j < length ps) × (parent_of ps j ≡ i)) (λ j. walk_of (length ps) (parent_of ps) f j ++ i ∷ [] ≡ walk_of (length ps) (parent_of ps) (length ps - depth_of ps j) j ++ i ∷ [])
+          (AllByRecursion-weaker (λ j. (0 < j) × (j < length ps) × (parent_of ps j ≡ i)) (λ j. walk_of (length ps) (parent_of ps) f j ++ i ∷ [] ≡ walk_of (length ps) (parent_of ps) (length ps - depth_of ps j) j ++ i ∷ [])
           (λ j h. let s : f ≡ length ps - depth_of ps j = omega (arith, (rooted ps lawful).deeper j h.0 h.1, ap (depth_of ps) h.2) in ap (λ (k : ℕ). walk_of (length ps) (parent_of ps) k j ++ i ∷ []) s) _ (branch_of (rooted ps lawful) i)))
 
   pub walk_length : (i : ℕ) → i < length ps → length (walk_from ps i) ≡ 1 + length (tour_from ps i)

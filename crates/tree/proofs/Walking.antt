@@ -2,7 +2,7 @@
 use Rattle.std.proofs.Common.{◌≡◌, ℕ, zero, suc, ◌+◌, ◌-◌, ◌*◌, ◌<◌, ◌≤◌, ◌⊎◌, ◌↔◌, List, [], ◌∷◌, map, length, get_or, sym, refl, ap, ◌∙◌, subst, inl, inr, ⊎_elim, arith}
 use lib.ListN.{length-map}
 use Rattle.std.proofs.lemmas.List.{get_or-map}
-use Rattle.std.proofs.lemmas.List.Elements.{All-get_or}
+use Rattle.label.proofs.Elements.{AllByRecursion-get_or}
 use Rattle.label.specs.declared.label.Label.{Label}
 use Rattle.label.specs.Labels.{zero_label}
 use Rattle.tree.specs.declared.Station.{Station}
@@ -37,7 +37,7 @@ module _ (ps : List Station) (h : Canonical ps) where
   pub entry_inside : (k : ℕ) → k < length (walk_from ps 0) → get_or (walk_from ps 0) k 0 < length ps
   unfolding walk_from
   entry_inside k l =
-      (All-get_or (λ x. (x < length ps) × AboveAt (parent_of ps) (depth_of ps) 0 x) (walk_of (length ps) (parent_of ps) (length ps - depth_of ps 0) 0) k 0 l
+      (AllByRecursion-get_or (λ x. (x < length ps) × AboveAt (parent_of ps) (depth_of ps) 0 x) (walk_of (length ps) (parent_of ps) (length ps - depth_of ps 0) 0) k 0 l
       (walk_below (rooted ps h) (length ps - depth_of ps 0) 0 h.some)).0
 
   pub entry_label : (k : ℕ) → k < length (walk_from ps 0) → label_at (walk_labels ps) k ≡ station_label ps (get_or (walk_from ps 0) k 0)

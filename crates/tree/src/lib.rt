@@ -1,4 +1,6 @@
 // A plan's stations as a tree: what is known of them, and the mathematics of ways and walks on them.
+#![tactic(auto)]
+
 use label::Label;
 
 // A station of a plan: its label, the index of the next station towards the root, and its depth. The stations of a

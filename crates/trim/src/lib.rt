@@ -1,5 +1,7 @@
 // Lists of positions without their t lowest and t highest, one step of each of the two line agreements, and how many
 // rounds each takes.
+#![tactic(auto)]
+
 mod list;
 mod rounds;
 mod step;

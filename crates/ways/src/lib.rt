@@ -1,4 +1,6 @@
 // Stations, ways and the walk of a plan, on its list of stations: what every call of a plan asks.
+#![tactic(auto)]
+
 mod asks;
 mod climbs;
 mod courses;

@@ -2,9 +2,9 @@ use Rattle.std.proofs.Common.{[], length, sym, arith, length-take}
 use Rattle.records.proofs.Turns.{blocks_within}
 use Rattle.records.proofs.file.read_blocks.Goals as goal
 
-pub read-records-requires : goal.read-records-requires
-read-records-requires c =
+pub read_records-requires : goal.read_records-requires
+read_records-requires c =
     record {
       few = simp length-take (omega arith);
-      within = blocks_within c.args.file.now c.args.count 0 c.args.count (length c.args.file.now) [] _ (omega arith) tt (sym c.in-ok-total.ensures.1);
+      within = blocks_within c.args.file.now c.args.count 0 c.args.count (length c.args.file.now) [] _ (omega arith) tt (sym c.in_ok-total.ensures.1);
     }

@@ -20,14 +20,14 @@ pub loop-i-preserved : goal.loop-i-preserved
 loop-i-preserved c =
     let within : 2 * c.loop-i.i + 1 < length c.args.text.now = omega arith in
     turn c.args.text.now (vec_items c.loop-i.bytes) (vec_items c.push.new.self) c.loop-i.i
-    c.in-ok-pair.field-0 c.in-ok-push.ensures.items c.loop-i.invariant within
-    c.in-ok-pair.ensures.reads.0 c.in-ok-pair.ensures.reads.1
+    c.in_ok-pair.field-0 c.in_ok-push.ensures.items c.loop-i.invariant within
+    c.in_ok-pair.ensures.reads.0 c.in_ok-pair.ensures.reads.1
 
-pub returns-in-err-pair : goal.returns-in-err-pair
-returns-in-err-pair c =
+pub returns-in_err-pair : goal.returns-in_err-pair
+returns-in_err-pair c =
     let within : 2 * c.loop-i.i + 1 < length c.args.text.now = omega arith in
     let other : c.args.text.now ≡ 45 ∷ [] → ⊥ = not_from_Decides _ (slice_eq-Decides Decides-eqb _ _ _ c.eq.ensures) c.if-eq.false in
-    let none = stray_none c.args.text.now c.loop-i.i within other c.in-err-pair.ensures.refuses.1 in
+    let none = stray_none c.args.text.now c.loop-i.i within other c.in_err-pair.ensures.refuses.1 in
     let told = of_error c.from-residual.result _ _ c.from-residual.ensures.0 (λ e. inr none) in
     record { reads = told.0; refuses = told.1 }
 

@@ -9,10 +9,10 @@ loop-i-preserved c =
     let slots = c.args.slots.now in
     let list = c.loop-i.list in
     let i = c.loop-i.i in
-    let v = c.list-entry.result in
+    let v = c.list_entry.result in
     let h : i < length slots = omega arith in
     let x : c.index-slots-i.result ≡ get_or slots i None = get_or_read slots i c.index-slots-i.result h c.index-slots-i.is None in
-    let e : v ≡ f (get_or slots i None) = c.list-entry.ensures ∙ ap f x in (
+    let e : v ≡ f (get_or slots i None) = c.list_entry.ensures ∙ ap f x in (
       length-set list i v ∙ c.loop-i.invariant.0,
       take_more_set list i v (omega (arith, c.loop-i.invariant.0)) ∙ ap (λ l. l ++ (v ∷ [])) c.loop-i.invariant.1
           ∙ ap (λ w. map f (take i slots) ++ (w ∷ [])) e ∙ sym (map_more f slots i None h),

@@ -4,11 +4,11 @@ use Rattle.trim.proofs.Iterations.{few_before, iterations-least, iterations-few,
 use Rattle.trim.proofs.Runs.{runs}
 use Rattle.trim.proofs.rounds.+least_from.Goals as goal
 
-pub overflow-add-r : goal.overflow-add-r
-overflow-add-r t c = omega (arith, few_before c.args.m c.args.spread c.args.f (omega arith) c.args.r c.requires.before)
+pub overflow_add-r : goal.overflow_add-r
+overflow_add-r t c = omega (arith, few_before c.args.m c.args.spread c.args.f (omega arith) c.args.r c.requires.before)
 
-pub least-from-requires : goal.least-from-requires
-least-from-requires t c =
+pub least_from-requires : goal.least_from-requires
+least_from-requires t c =
     let m = c.args.m in
     let D = c.args.spread in
     let f = c.args.f in

@@ -5,8 +5,8 @@ use Rattle.trim.proofs.Runs.{runs}
 use Rattle.trim.proofs.Iterations.{below_pow, doublings-least, doublings-few, least_same, worsts}
 use Rattle.trim.proofs.rounds.doublings_to.Goals as goal
 
-pub overflow-add-k : goal.overflow-add-k
-overflow-add-k c = omega (arith, below_pow c.loop-reach.k, c.loop-reach.invariant.0)
+pub overflow_add-k : goal.overflow_add-k
+overflow_add-k c = omega (arith, below_pow c.loop-reach.k, c.loop-reach.invariant.0)
 
 pub loop-reach-preserved : goal.loop-reach-preserved
 loop-reach-preserved c =

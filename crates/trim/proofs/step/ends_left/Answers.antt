@@ -14,8 +14,8 @@ returns c =
     let t = c.args.t in
     let n = length slots in
     let xs = map (entry_of span) slots in
-    let e : take (n - t - t) (drop t c.in-order-list.result) ≡ kept t xs =
-    kept_part t n xs c.in-order-list.result (omega arith) (length-map slots (entry_of span)) c.in-order-list.ensures in
+    let e : take (n - t - t) (drop t c.in_order-list.result) ≡ kept t xs =
+    kept_part t n xs c.in_order-list.result (omega arith) (length-map slots (entry_of span)) c.in_order-list.ensures in
     let a = ap (λ (l : List ℕ). get_or l 0 0) e in
     let b = ap (λ (l : List ℕ). get_or l (length l - 1) 0) e in
     let low = step_in span t slots c.requires.some c.requires.enough least least-inside in

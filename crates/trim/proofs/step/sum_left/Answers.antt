@@ -12,8 +12,8 @@ total-requires c =
     let slots = c.args.slots.now in
     let span = c.args.span in
     let t = c.args.t in
-    let e = kept_part t (length slots) (map (entry_of span) slots) c.in-order-list.result (omega arith)
-    (length-map slots (entry_of span)) c.in-order-list.ensures in
+    let e = kept_part t (length slots) (map (entry_of span) slots) c.in_order-list.result (omega arith)
+    (length-map slots (entry_of span)) c.in_order-list.ensures in
     omega (
       arith,
       ap sum e,
@@ -28,7 +28,7 @@ returns c =
     let t = c.args.t in
     let l = length-map slots (entry_of span) in
     record {
-      is = c.total.ensures ∙ ap sum (kept_part t (length slots) (map (entry_of span) slots) c.in-order-list.result (omega arith) l c.in-order-list.ensures);
+      is = c.total.ensures ∙ ap sum (kept_part t (length slots) (map (entry_of span) slots) c.in_order-list.result (omega arith) l c.in_order-list.ensures);
       size = l;
       within = step_in span t slots c.requires.some c.requires.enough graded_step graded_inside;
       layers = by_layers;

@@ -4,4 +4,4 @@ use Rattle.ways.proofs.asks.at_depth.Goals as goal
 
 pub returns-in-Some : goal.returns-in-Some
 returns-in-Some c =
-    told_at_depth c.args.ps.now c.requires.lawful c.args.label c.label-of.result c.in-Some.v c.station-at.result c.args.level c.in-Some.ensures.says (omega arith) c.station-at.ensures.value c.label-of.ensures
+    told_at_depth c.args.ps.now c.requires.lawful c.args.label c.label_of.result c.in-Some.v c.station_at.result c.args.level c.in-Some.ensures.says (omega arith) c.station_at.ensures.value c.label_of.ensures

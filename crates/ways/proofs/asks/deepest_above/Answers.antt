@@ -4,4 +4,4 @@ use Rattle.ways.proofs.asks.deepest_above.Goals as goal
 pub returns-in-Some : goal.returns-in-Some
 returns-in-Some c =
     let f = c.in-Some.ensures in
-    told_deepest c.args.ps.now c.requires.lawful c.args.a c.args.b c.label-of.result c.in-Some.u c.in-Some.v c.meeting-point.result f.0 f.1 c.meeting-point.ensures c.label-of.ensures
+    told_deepest c.args.ps.now c.requires.lawful c.args.a c.args.b c.label_of.result c.in-Some.u c.in-Some.v c.meeting_point.result f.0 f.1 c.meeting_point.ensures c.label_of.ensures

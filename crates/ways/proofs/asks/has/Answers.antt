@@ -2,4 +2,4 @@ use Rattle.ways.proofs.Answering.{held_decides}
 use Rattle.ways.proofs.asks.has.Goals as goal
 
 pub returns : goal.returns
-returns c = held_decides c.args.ps.now c.args.label c.find.result c.is-some.result c.is-some.ensures c.find.ensures.says
+returns c = held_decides c.args.ps.now c.args.label c.find.result c.is_some.result c.is_some.ensures c.find.ensures.says

@@ -5,5 +5,5 @@ use Rattle.ways.proofs.asks.height.Goals as goal
 
 pub returns : goal.returns
 returns c =
-    subst (Height c.args.ps.now) (sym c.depth-of.ensures)
-    (height_is c.args.ps.now c.requires.lawful c.deepest-station.result c.deepest-station.ensures.inside c.deepest-station.ensures.most)
+    subst (Height c.args.ps.now) (sym c.depth_of.ensures)
+    (height_is c.args.ps.now c.requires.lawful c.deepest_station.result c.deepest_station.ensures.inside c.deepest_station.ensures.most)

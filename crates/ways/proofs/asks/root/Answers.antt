@@ -6,4 +6,4 @@ use Rattle.ways.proofs.asks.root.Goals as goal
 
 pub returns : goal.returns
 returns c =
-    record { value = c.label-of.ensures; lowest = subst (λ (z : Label). Root c.args.ps.now z) (sym c.label-of.ensures) (root_is c.args.ps.now c.requires.lawful) }
+    record { value = c.label_of.ensures; lowest = subst (λ (z : Label). Root c.args.ps.now z) (sym c.label_of.ensures) (root_is c.args.ps.now c.requires.lawful) }

@@ -8,9 +8,9 @@ pub returns-in-Some : goal.returns-in-Some
 returns-in-Some c =
     let f = c.in-Some.ensures in
     record {
-      written = told_way c.args.ps.now c.requires.lawful c.args.from c.args.to c.args.out.now c.write-course.new.out c.in-Some.u c.in-Some.v c.write-course.result f.0 f.1
-          c.write-course.ensures.written c.write-course.ensures.behind
-          (omega (arith, c.write-course.ensures.count, course_short c.args.ps.now c.requires.lawful c.in-Some.u c.in-Some.v f.0.0 f.1.0, c.requires.lawful.few));
+      written = told_way c.args.ps.now c.requires.lawful c.args.from c.args.to c.args.out.now c.write_course.new.out c.in-Some.u c.in-Some.v c.write_course.result f.0 f.1
+          c.write_course.ensures.written c.write_course.ensures.behind
+          (omega (arith, c.write_course.ensures.count, course_short c.args.ps.now c.requires.lawful c.in-Some.u c.in-Some.v f.0.0 f.1.0, c.requires.lawful.few));
       only = one_way;
     }
 

@@ -8,7 +8,7 @@ pub loop-at-preserved : goal.loop-at-preserved
 loop-at-preserved c =
     let r = rooted c.args.ps.now c.requires.lawful in
     let lt : c.args.level < depth_of c.args.ps.now c.loop-at.at = omega arith in (
-      omega (arith, r.inside c.loop-at.at c.loop-at.invariant.0, c.parent-of-at.ensures),
-      ap (λ (z : ℕ). climb (parent_of c.args.ps.now) (depth_of c.args.ps.now z - c.args.level) z) c.parent-of-at.ensures
+      omega (arith, r.inside c.loop-at.at c.loop-at.invariant.0, c.parent_of-at.ensures),
+      ap (λ (z : ℕ). climb (parent_of c.args.ps.now) (depth_of c.args.ps.now z - c.args.level) z) c.parent_of-at.ensures
           ∙ climb_up r c.loop-at.at c.args.level c.loop-at.invariant.0 c.requires.some lt ∙ c.loop-at.invariant.1,
     )

@@ -3,33 +3,33 @@ use Rattle.tree.specs.Courses.{course_from}
 use Rattle.tree.specs.Stations.{rooted, parent_of, depth_of}
 use Rattle.tree.proofs.Courses.{course_met, course_from_right, course_from-left, course_short}
 use Rattle.ways.proofs.courses.course_length.Goals as goal
-use Rattle.ways.proofs.courses.course_length.Goals.{then-depth-of, else-depth-of}
+use Rattle.ways.proofs.courses.course_length.Goals.{then-depth_of, else-depth_of}
 
-pub overflow-add-count : goal.overflow-add-count
-overflow-add-count c = omega (arith, course_short c.args.ps.now c.requires.lawful c.args.u c.args.v c.requires.first c.requires.second, c.requires.lawful.few)
+pub overflow_add-count : goal.overflow_add-count
+overflow_add-count c = omega (arith, course_short c.args.ps.now c.requires.lawful c.args.u c.args.v c.requires.first c.requires.second, c.requires.lawful.few)
 
 pub loop-a-smaller : goal.loop-a-smaller
 loop-a-smaller c =
-    elim c.if-depth-of.branch [
-      | then-depth-of w ↦
-          let s = course_from_right c.args.ps.now c.requires.lawful c.loop-a.a c.loop-a.b c.loop-a.invariant.0 c.loop-a.invariant.1 c.loop-a-test.true (omega (arith, w.if-depth-of.true)) in
-          omega (arith, s.1, ap (depth_of c.args.ps.now) w.a-is, ap (depth_of c.args.ps.now) w.b-is, ap (depth_of c.args.ps.now) w.parent-of-b.ensures)
-      | else-depth-of w ↦
-          let s = course_from-left c.args.ps.now c.requires.lawful c.loop-a.a c.loop-a.b c.loop-a.invariant.0 c.loop-a.invariant.1 c.loop-a-test.true (omega (arith, w.if-depth-of.false)) in
-          omega (arith, s.1, ap (depth_of c.args.ps.now) w.a-is, ap (depth_of c.args.ps.now) w.b-is, ap (depth_of c.args.ps.now) w.parent-of-a.ensures)
+    elim c.if-depth_of.branch [
+      | then-depth_of w ↦
+          let s = course_from_right c.args.ps.now c.requires.lawful c.loop-a.a c.loop-a.b c.loop-a.invariant.0 c.loop-a.invariant.1 c.loop-a-test.true (omega (arith, w.if-depth_of.true)) in
+          omega (arith, s.1, ap (depth_of c.args.ps.now) w.a-is, ap (depth_of c.args.ps.now) w.b-is, ap (depth_of c.args.ps.now) w.parent_of-b.ensures)
+      | else-depth_of w ↦
+          let s = course_from-left c.args.ps.now c.requires.lawful c.loop-a.a c.loop-a.b c.loop-a.invariant.0 c.loop-a.invariant.1 c.loop-a-test.true (omega (arith, w.if-depth_of.false)) in
+          omega (arith, s.1, ap (depth_of c.args.ps.now) w.a-is, ap (depth_of c.args.ps.now) w.b-is, ap (depth_of c.args.ps.now) w.parent_of-a.ensures)
     ]
 
 pub loop-a-preserved : goal.loop-a-preserved
 loop-a-preserved c =
     let r = rooted c.args.ps.now c.requires.lawful in
-    elim c.if-depth-of.branch [
-      | then-depth-of w ↦
-          let s = course_from_right c.args.ps.now c.requires.lawful c.loop-a.a c.loop-a.b c.loop-a.invariant.0 c.loop-a.invariant.1 c.loop-a-test.true (omega (arith, w.if-depth-of.true)) in
+    elim c.if-depth_of.branch [
+      | then-depth_of w ↦
+          let s = course_from_right c.args.ps.now c.requires.lawful c.loop-a.a c.loop-a.b c.loop-a.invariant.0 c.loop-a.invariant.1 c.loop-a-test.true (omega (arith, w.if-depth_of.true)) in
           let long = length-append (course_from c.args.ps.now c.loop-a.a (parent_of c.args.ps.now c.loop-a.b)) (c.loop-a.b ∷ []) in
-          simp (w.a-is, w.b-is, w.parent-of-b.ensures) (c.loop-a.invariant.0, r.inside c.loop-a.b c.loop-a.invariant.1, omega (arith, ap length s.0))
-      | else-depth-of w ↦
-          let s = course_from-left c.args.ps.now c.requires.lawful c.loop-a.a c.loop-a.b c.loop-a.invariant.0 c.loop-a.invariant.1 c.loop-a-test.true (omega (arith, w.if-depth-of.false)) in
-          simp (w.a-is, w.b-is, w.parent-of-a.ensures) (r.inside c.loop-a.a c.loop-a.invariant.0, c.loop-a.invariant.1, omega (arith, ap length s.0))
+          simp (w.a-is, w.b-is, w.parent_of-b.ensures) (c.loop-a.invariant.0, r.inside c.loop-a.b c.loop-a.invariant.1, omega (arith, ap length s.0))
+      | else-depth_of w ↦
+          let s = course_from-left c.args.ps.now c.requires.lawful c.loop-a.a c.loop-a.b c.loop-a.invariant.0 c.loop-a.invariant.1 c.loop-a-test.true (omega (arith, w.if-depth_of.false)) in
+          simp (w.a-is, w.b-is, w.parent_of-a.ensures) (r.inside c.loop-a.a c.loop-a.invariant.0, c.loop-a.invariant.1, omega (arith, ap length s.0))
     ]
 
 pub returns : goal.returns

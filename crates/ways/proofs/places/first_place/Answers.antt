@@ -5,5 +5,5 @@ use Rattle.ways.proofs.places.first_place.Goals as goal
 
 pub returns : goal.returns
 returns c =
-    place_told c.args.ps.now c.requires.lawful c.args.label c.find.result c.unwrap-or.result c.place-of.result (take (c.write-walk-count.result - 0) c.write-walk-count.new.out) c.find.ensures.says c.unwrap-or.ensures
-    (front_is c.write-walk-count.new.out (walk_from c.args.ps.now 0) c.write-walk-count.result c.write-walk-count.ensures.written) c.place-of.ensures
+    place_told c.args.ps.now c.requires.lawful c.args.label c.find.result c.unwrap_or.result c.place_of.result (take (c.write_walk-count.result - 0) c.write_walk-count.new.out) c.find.ensures.says c.unwrap_or.ensures
+    (front_is c.write_walk-count.new.out (walk_from c.args.ps.now 0) c.write_walk-count.result c.write_walk-count.ensures.written) c.place_of.ensures

@@ -7,23 +7,23 @@ use Rattle.tree.proofs.Walking.{walk_long, walk_laws}
 use Rattle.ways.proofs.Placing.{front_is, walk_inside}
 use Rattle.ways.proofs.places.walk.Goals as goal
 
-pub write-labels-requires : goal.write-labels-requires
-write-labels-requires c =
-    let e = front_is c.write-walk-count.new.out (walk_from c.args.ps.now 0) c.write-walk-count.result c.write-walk-count.ensures.written in
+pub write_labels-requires : goal.write_labels-requires
+write_labels-requires c =
+    let e = front_is c.write_walk-count.new.out (walk_from c.args.ps.now 0) c.write_walk-count.result c.write_walk-count.ensures.written in
     record {
-      few = omega (arith, ap length e, c.write-walk-count.ensures.end, c.write-walk-count.ensures.within);
-      inside = walk_inside c.args.ps.now c.requires.lawful (take (c.write-walk-count.result - 0) c.write-walk-count.new.out) e;
+      few = omega (arith, ap length e, c.write_walk-count.ensures.end, c.write_walk-count.ensures.within);
+      inside = walk_inside c.args.ps.now c.requires.lawful (take (c.write_walk-count.result - 0) c.write_walk-count.new.out) e;
     }
 
 pub returns : goal.returns
 returns c =
-    let e = front_is c.write-walk-count.new.out (walk_from c.args.ps.now 0) c.write-walk-count.result c.write-walk-count.ensures.written in
-    let n : length (take (c.write-walk-count.result - 0) c.write-walk-count.new.out) ≡ c.write-walk-count.result = ap length e ∙ sym c.write-walk-count.ensures.end in
-    let w : take c.write-walk-count.result c.write-labels.new.out ≡ walk_labels c.args.ps.now =
-    sym (ap (λ (k : ℕ). take k c.write-labels.new.out) n) ∙ c.write-labels.ensures.written ∙ ap (map (station_label c.args.ps.now)) e in
+    let e = front_is c.write_walk-count.new.out (walk_from c.args.ps.now 0) c.write_walk-count.result c.write_walk-count.ensures.written in
+    let n : length (take (c.write_walk-count.result - 0) c.write_walk-count.new.out) ≡ c.write_walk-count.result = ap length e ∙ sym c.write_walk-count.ensures.end in
+    let w : take c.write_walk-count.result c.write_labels.new.out ≡ walk_labels c.args.ps.now =
+    sym (ap (λ (k : ℕ). take k c.write_labels.new.out) n) ∙ c.write_labels.ensures.written ∙ ap (map (station_label c.args.ps.now)) e in
     record {
-      count = omega (arith, walk_long c.args.ps.now c.requires.lawful, c.write-walk-count.ensures.end);
+      count = omega (arith, walk_long c.args.ps.now c.requires.lawful, c.write_walk-count.ensures.end);
       written = w;
-      behind = sym (ap (λ (k : ℕ). drop k c.write-labels.new.out) n) ∙ c.write-labels.ensures.behind ∙ ap (λ (k : ℕ). drop k c.args.out.now) n;
+      behind = sym (ap (λ (k : ℕ). drop k c.write_labels.new.out) n) ∙ c.write_labels.ensures.behind ∙ ap (λ (k : ℕ). drop k c.args.out.now) n;
       laws = subst (λ (ws : List Label). WalkLaws c.args.ps.now ws) (sym w) (walk_laws c.args.ps.now c.requires.lawful);
     }

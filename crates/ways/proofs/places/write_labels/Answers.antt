@@ -7,12 +7,12 @@ use Rattle.ways.proofs.places.write_labels.Goals as goal
 pub loop-k-preserved : goal.loop-k-preserved
 loop-k-preserved c = (
   length-set _ _ _ ∙ c.loop-k.invariant.0,
-  take_more_set c.loop-k.out c.loop-k.k c.label-of.result (omega arith)
-      ∙ ap (λ (xs : List Label). xs ++ c.label-of.result ∷ []) c.loop-k.invariant.1
-      ∙ ap (λ (l : Label). map (station_label c.args.ps.now) (take c.loop-k.k c.args.places.now) ++ l ∷ []) c.label-of.ensures
+  take_more_set c.loop-k.out c.loop-k.k c.label_of.result (omega arith)
+      ∙ ap (λ (xs : List Label). xs ++ c.label_of.result ∷ []) c.loop-k.invariant.1
+      ∙ ap (λ (l : Label). map (station_label c.args.ps.now) (take c.loop-k.k c.args.places.now) ++ l ∷ []) c.label_of.ensures
       ∙ sym (map-append (station_label c.args.ps.now) (take c.loop-k.k c.args.places.now) (get_or c.args.places.now c.loop-k.k 0 ∷ []))
       ∙ sym (ap (map (station_label c.args.ps.now)) (take_more c.args.places.now c.loop-k.k 0 c.loop-k-test.true)),
-  drop-set-lt (c.loop-k.k + 1) c.loop-k.out c.loop-k.k c.label-of.result (omega arith)
+  drop-set-lt (c.loop-k.k + 1) c.loop-k.out c.loop-k.k c.label_of.result (omega arith)
       ∙ sym (drop-drop 1 c.loop-k.k c.loop-k.out) ∙ ap (drop 1) c.loop-k.invariant.2 ∙ drop-drop 1 c.loop-k.k c.args.out.now,
 )
 

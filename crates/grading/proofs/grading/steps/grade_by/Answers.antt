@@ -9,7 +9,7 @@ pub returns : goal.returns
 returns g c =
     let k = g.K.Kind.coding in
     let crew = c.args.crew in
-    let e = c.grade-from.ensures in
+    let e = c.grade_from.ensures in
     let col = column k crew.n c.args.s (box_of c.args.inbox.now) in
     record {
       value = e;

@@ -6,4 +6,4 @@ pub returns : goal.returns
 returns g c =
     let k = g.K.Kind.coding in
     let l = g.met.K.Kind.lawful in
-    record { value = c.table-grade.ensures; rounds = by_rounds k l; broadcast = graded_broadcast k l }
+    record { value = c.table_grade.ensures; rounds = by_rounds k l; broadcast = graded_broadcast k l }

@@ -6,4 +6,4 @@ pub returns : goal.returns
 returns g c =
     let k = g.K.Kind.coding in
     let l = g.met.K.Kind.lawful in
-    record { bytes = c.stage-frame.ensures; rounds = by_rounds k l; broadcast = graded_broadcast k l }
+    record { bytes = c.stage_frame.ensures; rounds = by_rounds k l; broadcast = graded_broadcast k l }

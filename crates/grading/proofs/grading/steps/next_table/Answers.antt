@@ -7,4 +7,4 @@ use Rattle.grading.proofs.grading.steps.next_table.Goals as goal
 pub returns : goal.returns
 returns g c =
     let k = g.K.Kind.coding in
-    c.fill-table.ensures ∙ tabled_is k (slot_after k c.args.grading.now (box_of c.args.inbox.now) c.args.grading.now.stage) c.args.grading.now.crew.n
+    c.fill_table.ensures ∙ tabled_is k (slot_after k c.args.grading.now (box_of c.args.inbox.now) c.args.grading.now.stage) c.args.grading.now.crew.n

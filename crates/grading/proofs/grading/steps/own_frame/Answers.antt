@@ -8,7 +8,7 @@ returns g c =
     let k = g.K.Kind.coding in
     let l = g.met.K.Kind.lawful in
     let bytes = k.writes c.args.own in
-    let size : c.slot-width.result - 0 ≡ length bytes = omega (arith, c.slot-width.ensures, l.long c.args.own) in
+    let size : c.slot_width.result - 0 ≡ length bytes = omega (arith, c.slot_width.ensures, l.long c.args.own) in
     c.new.ensures
     ∙ ap (λ n. framed (take n c.write.new.out)) size
     ∙ ap (λ out. framed (take (length bytes) out)) c.write.ensures

@@ -8,7 +8,7 @@ use Rattle.grading.proofs.grading.steps.sure_marks.Goals as goal
 pub loop-s-preserved : goal.loop-s-preserved
 loop-s-preserved g c =
     filled_more (λ (s : ℕ). sure (grade_by g.K.Kind.coding c.args.crew.n c.args.crew.t (box_of c.args.inbox.now) s)) false c.loop-s.marks c.loop-s.s c.loop-s.invariant _ c.loop-s-test.true
-    (c.is-sure.ensures ∙ ap sure c.grade-from.ensures)
+    (c.is_sure.ensures ∙ ap sure c.grade_from.ensures)
 
 pub returns : goal.returns
 unfolding sure_marks

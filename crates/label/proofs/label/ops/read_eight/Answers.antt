@@ -5,9 +5,9 @@ use Rattle.label.proofs.label.ops.read_eight.Goals as goal
 
 pub returns : goal.returns
 returns c =
-    let value : c.of-eight.result ≡ label_of c.args.bytes.now =
-    read_is c.args.bytes.now c.of-eight.result (omega arith) c.of-eight.ensures in
-    let both = read_exact c.args.bytes.now c.of-eight.result value in
+    let value : c.of_eight.result ≡ label_of c.args.bytes.now =
+    read_is c.args.bytes.now c.of_eight.result (omega arith) c.of_eight.ensures in
+    let both = read_exact c.args.bytes.now c.of_eight.result value in
     record { value = value; exact = record { shaped = both.0; whole = both.1 }; shaped = record { every = bytes_shaped } }
 
 pub returns-then-bytes-ne8 : goal.returns-then-bytes-ne8

@@ -7,7 +7,7 @@ use Rattle.plan.proofs.plan.Plan.listed.Goals as goal
 
 pub returns : goal.returns
 returns c =
-    let e = c.as-slice.ensures.value in
+    let e = c.as_slice.ensures.value in
     record {
       value = e;
       lawful = subst (λ (ps : List Station). Canonical ps) (sym e) (canonical c.args.self.now);

@@ -4,8 +4,8 @@ use Rattle.plan.proofs.plan.Plan.replace.Goals as goal
 
 pub take-requires : goal.take-requires
 take-requires c =
-    let told = c.in-ok-count.ensures.value in
-    let good = read_sound c.args.file.now (record { labels = take c.in-ok-count.count c.read.new.labels; joins = take c.in-ok-count.count c.read.new.joined }) told.2 in
+    let told = c.in_ok-count.ensures.value in
+    let good = read_sound c.args.file.now (record { labels = take c.in_ok-count.count c.read.new.labels; joins = take c.in_ok-count.count c.read.new.joined }) told.2 in
     record {
       few = (simp length-take (omega arith), simp length-take (omega arith));
       long = good.long;

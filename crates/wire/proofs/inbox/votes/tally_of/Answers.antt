@@ -5,7 +5,7 @@ use Rattle.wire.specs.Slots.{holds, slot_from}
 use Rattle.wire.proofs.Counts.{one}
 use Rattle.wire.proofs.Votes.{count_more}
 use Rattle.wire.proofs.inbox.votes.tally_of.Goals as goal
-use Rattle.wire.proofs.inbox.votes.tally_of.Goals.{then-is-value, else-is-value}
+use Rattle.wire.proofs.inbox.votes.tally_of.Goals.{then-is_value, else-is_value}
 
 pub loop-sender-preserved : goal.loop-sender-preserved
 loop-sender-preserved g c =
@@ -13,8 +13,8 @@ loop-sender-preserved g c =
     let f = λ (i : ℕ). slot_from k c.args.units c.args.s (from (box_of c.args.inbox.now) i) in
     let i = c.loop-sender.sender in
     let more = count_more (holds k c.args.value) f i in
-    let is : c.is-value.result ≡ holds k c.args.value (f i) = c.is-value.ensures ∙ ap (holds k c.args.value) c.slot.ensures in
-    elim c.if-is-value.branch [
-      | then-is-value w ↦ (omega (arith, w.n-is), omega (arith, w.n-is, more, ap one (sym is ∙ w.if-is-value.true), c.loop-sender.invariant.1))
-      | else-is-value w ↦ (omega (arith, w.n-is), omega (arith, w.n-is, more, ap one (sym is ∙ w.if-is-value.false), c.loop-sender.invariant.1))
+    let is : c.is_value.result ≡ holds k c.args.value (f i) = c.is_value.ensures ∙ ap (holds k c.args.value) c.slot.ensures in
+    elim c.if-is_value.branch [
+      | then-is_value w ↦ (omega (arith, w.n-is), omega (arith, w.n-is, more, ap one (sym is ∙ w.if-is_value.true), c.loop-sender.invariant.1))
+      | else-is_value w ↦ (omega (arith, w.n-is), omega (arith, w.n-is, more, ap one (sym is ∙ w.if-is_value.false), c.loop-sender.invariant.1))
     ]
