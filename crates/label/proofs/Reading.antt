@@ -1,8 +1,8 @@
 -- Reading a label from bytes, and writing it again.
-use Rattle.std.proofs.Common.{◌≡◌, ℕ, Bool, true, false, ◌↔◌, List, [], ◌∷◌, length, get_or, is_some, Some, None, Option, sym, refl, ap, ◌∙◌, subst, ⊎_elim, true≢false, arith}
+use Rattle.std.proofs.Common.{◌≡◌, ℕ, ◌&&◌, eqb, Bool, true, false, ◌↔◌, List, [], ◌∷◌, length, get_or, is_some, Some, None, Option, sym, refl, ap, ◌∙◌, ⊎_elim, true≢false, arith}
 use mathlib.Core.Bool.{Bool-set}
 use Rattle.std.proofs.lemmas.Slice.Eq.{text_from_reads}
-use Rattle.std.proofs.lemmas.Bool.{cases_eq}
+use Rattle.std.proofs.lemmas.Bool.{cases_eq, and_parts, and_from, eqb-true, eq-eqb}
 use Rattle.label.specs.Labels.{bytes_of, label_of, passed, Shaped}
 use Rattle.label.specs.Signs.{lawful}
 use Rattle.label.specs.declared.label.Label.{Label}
@@ -35,6 +35,31 @@ same_label_lem l m e =
     let q = read_written m in
     let r = ap label_of e in
     cc
+
+more_same : (a b : ℕ) (xs ys : List ℕ) (t : Bool) → (t ≡ true → xs ≡ ys) → (eqb a b && t) ≡ true → a ∷ xs ≡ b ∷ ys
+more_same a b xs ys t f h =
+    let p = and_parts (eqb a b) t h in
+    let q = eqb-true a b p.0 in
+    let r = f p.1 in
+    cc
+
+-- whether the eight bytes are the same tells whether the labels are
+pub same_bytes : (l m : Label) (r : Bool)
+    → r ≡ (eqb l.b0 m.b0 && (eqb l.b1 m.b1 && (eqb l.b2 m.b2 && (eqb l.b3 m.b3 && (eqb l.b4 m.b4 && (eqb l.b5 m.b5 && (eqb l.b6 m.b6 && eqb l.b7 m.b7)))))))
+    → (r ≡ true → l ≡ m) × (l ≡ m → r ≡ true)
+same_bytes l m r e = (to, from)
+  where
+    to : r ≡ true → l ≡ m
+    to h = same_label_lem l m (more_same _ _ _ _ _ (more_same _ _ _ _ _ (more_same _ _ _ _ _ (more_same _ _ _ _ _ (more_same _ _ _ _ _
+        (more_same _ _ _ _ _ (more_same _ _ _ _ _ (λ k. ap (λ (x : ℕ). x ∷ []) (eqb-true l.b7 m.b7 k)))))))) (sym e ∙ h))
+
+    from : l ≡ m → r ≡ true
+    from q =
+        let s = λ (a b : ℕ) (h : a ≡ b). eq-eqb a b h in
+        e ∙ and_from _ _ (s l.b0 m.b0 (ap (λ (x : Label). x.b0) q)) (and_from _ _ (s l.b1 m.b1 (ap (λ (x : Label). x.b1) q))
+        (and_from _ _ (s l.b2 m.b2 (ap (λ (x : Label). x.b2) q)) (and_from _ _ (s l.b3 m.b3 (ap (λ (x : Label). x.b3) q))
+        (and_from _ _ (s l.b4 m.b4 (ap (λ (x : Label). x.b4) q)) (and_from _ _ (s l.b5 m.b5 (ap (λ (x : Label). x.b5) q))
+        (and_from _ _ (s l.b6 m.b6 (ap (λ (x : Label). x.b6) q)) (s l.b7 m.b7 (ap (λ (x : Label). x.b7) q))))))))
 
 pub bytes_shaped : (l : Label) → Shaped (bytes_of l)
 bytes_shaped l = lawful_shaped (bytes_of l) refl l.ok

@@ -1,5 +1,5 @@
 -- A label as its eight bytes, and the label that bytes hold.
-use Rattle.std.specs.Prelude.{◌≡◌, ℕ, ◌+◌, ◌<◌, ◌≤◌, Bool, true, false, List, [], ◌∷◌, length, is_some, Some, None, Option, slice_index}
+use Rattle.std.specs.Prelude.{◌≡◌, ℕ, ◌<◌, ◌≤◌, Bool, true, false, List, [], ◌∷◌, length, is_some, Some, None, Option, slice_index}
 use Rattle.label.specs.Signs.{sign, lawful}
 use Rattle.label.specs.declared.label.Label.{Label}
 

@@ -1,5 +1,5 @@
-use Rattle.std.proofs.Common.{◌≡◌, rules}
+use Rattle.label.proofs.Reading.{same_bytes}
 use Rattle.label.proofs.label.ops.is_same.Goals as goal
 
 pub returns : goal.returns
-returns c = let h = c.eq.ensures in ?
+returns c = same_bytes c.args.a c.args.b _ c.eq.ensures

@@ -1,4 +1,4 @@
-use Rattle.std.proofs.Common.{◌≡◌, ◌<◌, ◌≤◌, length, get_or, take, is_ok, Ok, refl, ap, ◌∙◌, arith, take_all}
+use Rattle.std.proofs.Common.{◌<◌, ◌≤◌, length, get_or, take, is_ok, Ok, refl, ap, ◌∙◌, arith, take_all}
 use Rattle.std.proofs.Output.{has_written_append, has_written_of_eq}
 use Rattle.label.specs.Shown.{shown_byte, shown_bytes}
 use Rattle.label.proofs.Showing.{shown_more}

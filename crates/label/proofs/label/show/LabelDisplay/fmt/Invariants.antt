@@ -1,4 +1,4 @@
-use Rattle.std.proofs.Common.{◌≡◌, take, Ok}
+use Rattle.std.proofs.Common.{take, Ok}
 use Rattle.std.specs.Fmt.{WritesOnOk}
 use Rattle.label.specs.Shown.{shown_bytes}
 use Rattle.label.proofs.label.show.LabelDisplay.fmt.Given as goal
