@@ -1,10 +1,10 @@
 -- The course from one station to another is the way between them, and has at most as many stations as the plan.
-use Rattle.std.proofs.Common.{◌≡◌, ℕ, zero, suc, ◌+◌, ◌-◌, ◌<◌, ◌≤◌, ◌⊎◌, List, [], ◌∷◌, ◌++◌, map, length, get_or, sym, refl, ap, ◌∙◌, subst, inl, inr, ⊎_elim, arith}
+use Rattle.std.proofs.Common.{◌≡◌, ℕ, zero, suc, ◌+◌, ◌-◌, ◌<◌, ◌≤◌, List, [], ◌∷◌, ◌++◌, map, length, get_or, sym, refl, ap, ◌∙◌, subst, inl, inr, arith}
 use Rattle.std.specs.List.{AllByRecursion}
 use Rattle.label.proofs.Elements.{AllByRecursion-get_or}
 use Rattle.label.specs.declared.label.Label.{Label}
 use Rattle.tree.specs.declared.Station.{Station}
-use Rattle.tree.specs.Ways.{On, Apart, Goes, Way}
+use Rattle.tree.specs.Ways.{On, Apart, Way}
 use Rattle.tree.specs.Stations.{station_label, parent_of, depth_of, Canonical, rooted}
 use Rattle.tree.specs.Caves.{Leg}
 use Rattle.tree.specs.Courses.{course_of, course_from}

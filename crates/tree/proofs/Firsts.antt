@@ -1,13 +1,14 @@
 -- Every station occurs in the walk, and has a first place.
-use Rattle.std.proofs.Common.{◌≡◌, ℕ, zero, suc, ◌+◌, ◌-◌, ◌<◌, ◌≤◌, Bool, true, false, cond, eqb, ◌⊎◌, List, [], ◌∷◌, ◌++◌, length, get_or, drop, Contains, sym, refl, ap, ◌∙◌, subst, inl, inr, ⊎_elim, arith}
+use Rattle.std.proofs.Common.{◌≡◌, ℕ, zero, suc, ◌+◌, ◌-◌, ◌<◌, ◌≤◌, Bool, cond, List, [], ◌∷◌, ◌++◌, length, get_or, drop, Contains, sym, ap, ◌∙◌, subst, ⊎_elim, arith}
 use Rattle.std.proofs.lemmas.List.{drop_more, drop_all}
 use Rattle.std.specs.List.{flat_map}
 use Rattle.std.proofs.lemmas.Bool.{cases_lt, cases_eq, eq-eqb, ne_eqb}
+use Rattle.std.proofs.lemmas.List.{get_or_default}
 use Rattle.std.proofs.lemmas.List.Elements.{Contains-append_left, Contains-append_right, Contains-push}
 use Rattle.tree.specs.Trees.{Rooted, AboveAt}
 use Rattle.tree.specs.declared.Station.{Station}
 use Rattle.tree.specs.Ways.{On}
-use Rattle.tree.specs.Stations.{parent_of, depth_of, Canonical, rooted}
+use Rattle.tree.specs.Stations.{depth_of, Canonical, rooted}
 use Rattle.tree.specs.Walks.{branches, walk_of, walk_from, first_place}
 use Rattle.tree.proofs.Climbs.{above_level, root_above}
 use Rattle.tree.proofs.Entries.{branch_of}
@@ -74,7 +75,7 @@ unfolding walk_from
 walk_has_all ps c x l =
     let r = rooted ps c in
     let h = walk_has r (length ps - depth_of ps 0) 0 x c.some l (omega arith) (root_above r x l) in
-    first_at x (walk_from ps 0) h.0 h.1 (h.2 0)
+    first_at x (walk_from ps 0) h.0 h.1 (get_or_default (walk_from ps 0) h.0 0 x h.1 ∙ h.2)
 
 module _ (x : ℕ) (ws : List ℕ) (k : ℕ) where
   pub place_here : k < length ws → get_or ws k 0 ≡ x → first_place x (drop k ws) ≡ 1

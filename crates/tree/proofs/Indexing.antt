@@ -1,5 +1,5 @@
 -- What finding a label says.
-use Rattle.std.proofs.Common.{◌≡◌, ℕ, zero, suc, ◌+◌, ◌-◌, ◌<◌, ◌≤◌, Bool, true, false, cond, eqb, ◌⊎◌, List, [], ◌∷◌, length, get_or, drop, Some, None, Option, sym, refl, ap, ◌∙◌, subst, inl, inr, ⊎_elim, arith}
+use Rattle.std.proofs.Common.{◌≡◌, ℕ, zero, suc, ◌+◌, ◌-◌, ◌<◌, ◌≤◌, Bool, true, false, cond, eqb, List, [], ◌∷◌, length, drop, Some, None, Option, sym, refl, ap, ◌∙◌, subst, arith}
 use Rattle.std.proofs.lemmas.List.{drop_more, drop_all}
 use Rattle.std.proofs.lemmas.Bool.{eqb-true, eq-eqb, ne_eqb, cond-true, cond-false}
 use Rattle.label.specs.declared.label.Label.{Label}
@@ -7,7 +7,6 @@ use Rattle.label.specs.Orders.{key_of}
 use Rattle.label.proofs.Keys.{same_key}
 use Rattle.tree.specs.declared.Station.{Station}
 use Rattle.tree.specs.Stations.{nowhere, station_label}
-use Rattle.tree.specs.Caves.{Holds}
 use Rattle.tree.specs.Index.{seek, index_of, Found}
 
 -- what the search from place k on says of the stations left

@@ -1,5 +1,5 @@
 -- A leg of a plan by the station farther from the root.
-use Rattle.std.proofs.Common.{◌≡◌, ℕ, ◌<◌, ◌⊎◌, List, length, sym, refl, ap, ◌∙◌, inl, inr, ⊎_elim}
+use Rattle.std.proofs.Common.{◌≡◌, ℕ, ◌<◌, ◌⊎◌, List, length, refl, ap, ◌∙◌, inl, inr, ⊎_elim}
 use Rattle.label.specs.declared.label.Label.{Label}
 use Rattle.tree.specs.declared.Station.{Station}
 use Rattle.tree.specs.Trees.{UnderAt}

@@ -1,12 +1,12 @@
 -- The published procedure lists the walk.
-use Rattle.std.proofs.Common.{◌≡◌, ℕ, zero, suc, ◌+◌, ◌-◌, ◌<◌, ◌≤◌, Bool, true, false, cond, not, ◌&&◌, ◌||◌, eqb, ltb, ◌⊎◌, List, [], ◌∷◌, ◌++◌, length, filter, sym, refl, ap, ◌∙◌, subst, inl, inr, ⊎_elim, append_assoc, append-nil, arith}
+use Rattle.std.proofs.Common.{◌≡◌, ℕ, zero, suc, ◌+◌, ◌-◌, ◌<◌, ◌≤◌, Bool, true, false, cond, not, ◌&&◌, ◌||◌, eqb, ltb, List, [], ◌∷◌, ◌++◌, length, filter, sym, refl, ap, ◌∙◌, subst, ⊎_elim, append_assoc, append-nil, arith}
 use Rattle.std.specs.List.{range_with_len, flat_map}
-use Rattle.std.proofs.lemmas.Bool.{cases_eq, cases_lt, eqb-true, eq-eqb, ne_eqb, lt-ltb, le-ltb, ltb-true, and_from, and_left, and_right, and_parts, or_left, or_right, or_from, cases_Bool}
+use Rattle.std.proofs.lemmas.Bool.{eqb-true, eq-eqb, ne_eqb, lt-ltb, le-ltb, ltb-true, and_from, and_left, and_right, and_parts, or_left, or_right, or_from, cases_Bool}
 use Rattle.std.specs.List.{AllByRecursion}
 use Rattle.label.proofs.Elements.{AllByRecursion-append, AllByRecursion-weaker}
 use Rattle.tree.specs.Trees.{Rooted, AboveAt}
 use Rattle.tree.specs.declared.Station.{Station}
-use Rattle.tree.specs.Stations.{parent_of, depth_of, Canonical, rooted}
+use Rattle.tree.specs.Stations.{parent_of, Canonical, rooted}
 use Rattle.tree.specs.Walks.{branches, walk_of, walk_from}
 use Rattle.tree.specs.Listing.{among, child, neighbour, list_each, list_from, listing}
 use Rattle.tree.proofs.Climbs.{above_self, above_trans, above_up, above_line, above_level}

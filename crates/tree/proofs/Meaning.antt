@@ -1,17 +1,17 @@
 -- What an answer by indices means in labels and legs.
-use Rattle.std.proofs.Common.{◌≡◌, ℕ, zero, suc, ◌+◌, ◌-◌, ◌<◌, ◌≤◌, ◌⊎◌, ◌↔◌, List, [], ◌∷◌, map, length, get_or, sym, refl, ap, ◌∙◌, subst, inl, inr, ⊎_elim, arith}
+use Rattle.std.proofs.Common.{◌≡◌, ℕ, ◌-◌, ◌<◌, ◌≤◌, ◌↔◌, List, [], ◌∷◌, map, length, sym, refl, ap, ◌∙◌, subst, inl, inr, ⊎_elim, arith}
 use Rattle.std.proofs.lemmas.Bool.{cases_lt, cases_eq}
 use Rattle.label.specs.declared.label.Label.{Label}
-use Rattle.label.specs.Orders.{key_of, Lower}
+use Rattle.label.specs.Orders.{key_of}
 use Rattle.label.proofs.Keys.{keys_follow}
 use Rattle.tree.specs.declared.Station.{Station}
-use Rattle.tree.specs.Trees.{Rooted, climb, AboveAt, LegAt, MeetAt}
-use Rattle.tree.specs.Ways.{On, Goes, Way, OnWay}
+use Rattle.tree.specs.Trees.{climb, AboveAt, MeetAt}
+use Rattle.tree.specs.Ways.{On, Goes}
 use Rattle.tree.specs.Stations.{station_label, parent_of, depth_of, Canonical, rooted}
 use Rattle.tree.specs.Caves.{Holds, Leg, root_label, Root, Above, Depth, Height, Deepest, AtDepth}
-use Rattle.tree.proofs.Climbs.{above_inside, climb_above, climb_inside, climb_depth, above_self, above_level}
+use Rattle.tree.proofs.Climbs.{climb_above, climb_inside, climb_depth}
 use Rattle.tree.proofs.Ways.{way_there}
-use Rattle.tree.proofs.Named.{one_label, leg_inside, way_named, above_named, depth_counts}
+use Rattle.tree.proofs.Named.{leg_inside, way_named, above_named, depth_counts}
 
 module _ (ps : List Station) (h : Canonical ps) where
   next-held : (a b : Label) → Leg ps a b → Holds ps b

@@ -1,6 +1,6 @@
 -- Ways on labels: what holds of numbered stations holds of their labels, and back.
-use Rattle.std.proofs.Common.{◌≡◌, ℕ, zero, suc, ◌+◌, ◌-◌, ◌<◌, ◌≤◌, ◌⊎◌, ◌↔◌, List, [], ◌∷◌, map, length, get_or, sym, refl, ap, ◌∙◌, subst, inl, inr, ⊎_elim, arith}
-use Rattle.std.proofs.lemmas.Bool.{cases_lt, cases_eq}
+use Rattle.std.proofs.Common.{◌≡◌, ℕ, suc, ◌+◌, ◌<◌, ◌≤◌, ◌↔◌, List, [], ◌∷◌, map, length, sym, refl, ap, ◌∙◌, subst, inl, inr, ⊎_elim, arith}
+use Rattle.std.proofs.lemmas.Bool.{cases_lt}
 use Rattle.std.specs.List.{AllByRecursion}
 use Rattle.label.specs.declared.label.Label.{Label}
 use Rattle.label.specs.Orders.{key_of}
@@ -9,8 +9,8 @@ use Rattle.tree.specs.Trees.{Rooted, AboveAt, UnderAt, LegAt}
 use Rattle.tree.specs.Ways.{On, Apart, Goes, Way, OnWay}
 use Rattle.tree.specs.Stations.{station_label, parent_of, depth_of, Canonical, rooted}
 use Rattle.tree.specs.Caves.{Holds, Leg, root_label, OneWay}
-use Rattle.tree.proofs.Climbs.{above_trans, climb_inside, root_above, under_depth, above_self}
-use Rattle.tree.proofs.Ways.{First, first, way_there, way_only, above_way}
+use Rattle.tree.proofs.Climbs.{root_above, under_depth}
+use Rattle.tree.proofs.Ways.{first, way_there, way_only, above_way}
 
 -- names given to numbered stations carry ways over, both ways -----------------------------------
 

@@ -1,5 +1,5 @@
 -- Plans with the same stations and the same legs have one list of stations.
-use Rattle.std.proofs.Common.{◌≡◌, ℕ, zero, suc, ◌+◌, ◌<◌, ◌≤◌, ◌⊎◌, List, [], ◌∷◌, length, get_or, sym, refl, ap, ◌∙◌, subst, inl, inr, ⊎_elim, arith}
+use Rattle.std.proofs.Common.{◌≡◌, ℕ, zero, suc, ◌<◌, ◌≤◌, List, length, get_or, sym, refl, ap, ◌∙◌, subst, inl, inr, ⊎_elim, arith}
 use Rattle.std.proofs.lemmas.Bool.{cases_lt, cases_eq}
 use Rattle.std.proofs.lemmas.List.{ext_get_or}
 use Rattle.label.specs.declared.label.Label.{Label}
@@ -8,9 +8,9 @@ use Rattle.label.proofs.Keys.{same_key}
 use Rattle.tree.specs.declared.Station.{Station}
 use Rattle.tree.specs.Trees.{Rooted, LegAt}
 use Rattle.tree.specs.Stations.{nowhere, station_label, parent_of, depth_of, Canonical, rooted}
-use Rattle.tree.specs.Caves.{Holds, Leg, SameCave, OneCave}
+use Rattle.tree.specs.Caves.{Holds, SameCave, OneCave}
 use Rattle.tree.proofs.Climbs.{depth_pos}
-use Rattle.tree.proofs.Legs.{Joins, joins_leg, leg_joins}
+use Rattle.tree.proofs.Legs.{joins_leg, leg_joins}
 use Rattle.tree.proofs.Named.{one_label}
 
 -- the key of the label at a place

@@ -1,5 +1,5 @@
 -- One turn of the climbs.
-use Rattle.std.proofs.Common.{◌≡◌, ℕ, zero, suc, ◌+◌, ◌-◌, ◌<◌, ◌≤◌, ◌⊎◌, sym, refl, ap, ◌∙◌, subst, inl, inr, ⊎_elim, arith}
+use Rattle.std.proofs.Common.{◌≡◌, ℕ, suc, ◌-◌, ◌<◌, ◌≤◌, sym, ap, subst, ⊎_elim, arith}
 use Rattle.tree.specs.Trees.{Rooted, climb, AboveAt, MeetAt}
 use Rattle.tree.proofs.Climbs.{above_self, above_trans, above_up, above_level, above_over, depth_pos, not_root, off_root}
 

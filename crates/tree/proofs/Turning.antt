@@ -1,8 +1,7 @@
 -- One turn of the loops that lead the legs of a file's records to the root.
-use Rattle.std.proofs.Common.{◌≡◌, ℕ, ◌+◌, ◌<◌, ◌≤◌, ◌⊎◌, List, length, get_or, set, sym, refl, ap, ◌∙◌, subst, inl, inr, ⊎_elim, arith}
+use Rattle.std.proofs.Common.{◌≡◌, ℕ, ◌+◌, ◌<◌, ◌≤◌, List, length, get_or, set, sym, ap, ◌∙◌, subst, inl, inr, ⊎_elim, arith}
 use Rattle.std.proofs.lemmas.Bool.{cases_lt, cases_eq}
 use Rattle.std.proofs.lemmas.List.{get_or-set_same, get_or-set_other}
-use Rattle.tree.specs.Records.{Earlier}
 use Rattle.tree.specs.Turned.{Unset, Linked, Turned, Settling}
 
 pub turned_start : (js : List ℕ) (root : ℕ) (ups ds : List ℕ) → root < length js → length js ≤ length ups → length js ≤ length ds → Unset ds → Turned js root (set ups root root) (set ds root 1) root

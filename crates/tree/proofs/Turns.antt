@@ -1,12 +1,11 @@
 -- One turn of the walk over the branches of a station.
-use Rattle.std.proofs.Common.{◌≡◌, ℕ, zero, suc, ◌+◌, ◌-◌, ◌*◌, ◌<◌, ◌≤◌, Bool, true, false, cond, eqb, List, [], ◌∷◌, ◌++◌, length, get_or, take, set, filter, sym, refl, ap, ◌∙◌, subst, append_assoc, append-nil, arith, length-append}
+use Rattle.std.proofs.Common.{◌≡◌, ℕ, zero, suc, ◌+◌, ◌-◌, ◌*◌, ◌<◌, ◌≤◌, eqb, List, [], ◌∷◌, ◌++◌, length, take, set, filter, refl, ap, ◌∙◌, append_assoc, arith, length-append}
 use Rattle.std.specs.List.{range_with_len, flat_map}
 use Rattle.std.proofs.lemmas.Bool.{eq-eqb, ne_eqb}
 use Rattle.std.proofs.lemmas.List.{take_more_set}
 use Rattle.std.specs.List.{AllByRecursion}
 use Rattle.label.proofs.Elements.{AllByRecursion-weaker}
 use Rattle.tree.specs.declared.Station.{Station}
-use Rattle.tree.specs.Trees.{Rooted}
 use Rattle.tree.specs.Stations.{parent_of, depth_of, Canonical, rooted}
 use Rattle.tree.specs.Walks.{branches, walk_of, walk_from, tour_from}
 use Rattle.tree.proofs.Entries.{branch_of}

@@ -1,5 +1,5 @@
 -- The laws of the walk, in labels and legs.
-use Rattle.std.proofs.Common.{◌≡◌, ℕ, zero, suc, ◌+◌, ◌-◌, ◌*◌, ◌<◌, ◌≤◌, ◌⊎◌, ◌↔◌, List, [], ◌∷◌, map, length, get_or, sym, refl, ap, ◌∙◌, subst, inl, inr, ⊎_elim, arith}
+use Rattle.std.proofs.Common.{◌≡◌, ℕ, zero, suc, ◌+◌, ◌-◌, ◌*◌, ◌<◌, ◌≤◌, List, [], ◌∷◌, map, length, get_or, sym, refl, ap, ◌∙◌, subst, inl, inr, arith}
 use lib.ListN.{length-map}
 use Rattle.std.proofs.lemmas.List.{get_or-map}
 use Rattle.label.proofs.Elements.{AllByRecursion-get_or}
@@ -10,7 +10,7 @@ use Rattle.tree.specs.Records.{label_at}
 use Rattle.tree.specs.Trees.{AboveAt}
 use Rattle.tree.specs.Ways.{On}
 use Rattle.tree.specs.Stations.{station_label, parent_of, depth_of, Canonical, rooted}
-use Rattle.tree.specs.Caves.{Holds, Leg, Above}
+use Rattle.tree.specs.Caves.{Leg, Above}
 use Rattle.tree.specs.Walks.{walk_of, walk_from, walk_labels, first_place}
 use Rattle.tree.specs.WalkLaws.{WalkLaws, FirstPlace}
 use Rattle.tree.proofs.Entries.{walk_below, walk_convex, walk_legs}

@@ -1,10 +1,10 @@
 -- The way between two stations: there is one, only one, and which stations are on it.
-use Rattle.std.proofs.Common.{◌≡◌, ℕ, zero, suc, ◌+◌, ◌-◌, ◌<◌, ◌≤◌, Bool, true, false, cond, eqb, ltb, ◌⊎◌, ◌↔◌, List, [], ◌∷◌, ◌++◌, sym, refl, ap, ◌∙◌, subst, inl, inr, ⊎_elim, arith}
+use Rattle.std.proofs.Common.{◌≡◌, ℕ, zero, suc, ◌+◌, ◌<◌, ◌≤◌, eqb, ltb, ◌⊎◌, ◌↔◌, List, [], ◌∷◌, ◌++◌, sym, refl, ap, ◌∙◌, subst, inl, inr, ⊎_elim, arith}
 use Rattle.std.proofs.lemmas.Bool.{cases_lt, cases_eq, eq-eqb, ne_eqb, lt-ltb, le-ltb, cond-true, cond-false}
-use Rattle.tree.specs.Trees.{Rooted, climb, AboveAt, UnderAt, LegAt, MeetAt}
+use Rattle.tree.specs.Trees.{Rooted, AboveAt, UnderAt, LegAt, MeetAt}
 use Rattle.tree.specs.Courses.{course_of}
 use Rattle.tree.specs.Ways.{On, Apart, Goes, Way, OnWay}
-use Rattle.tree.proofs.Climbs.{above_self, above_trans, above_up, above_line, above_level, above_last, above_either, above_both, above_cases, depth_pos, not_root, above_inside, root_above, off_root, above_over, under_above, under_depth, deepest}
+use Rattle.tree.proofs.Climbs.{above_self, above_trans, above_up, above_line, above_level, above_last, above_either, above_both, depth_pos, above_inside, root_above, off_root, above_over, under_above, under_depth}
 
 -- lists -----------------------------------------------------------------------------------------
 

@@ -1,6 +1,6 @@
 -- A plan in the words of the cave: labels, legs and ways. Nothing here speaks of indices but `Holds` and `Leg`, which
 -- say what stations and legs a plan has.
-use Rattle.std.specs.Prelude.{◌≡◌, ℕ, ◌+◌, ◌<◌, ◌≤◌, ◌⊎◌, List, [], length, get_or}
+use Rattle.std.specs.Prelude.{◌≡◌, ℕ, ◌+◌, ◌<◌, ◌≤◌, ◌⊎◌, List, length}
 use Rattle.label.specs.declared.label.Label.{Label}
 use Rattle.label.specs.Orders.{Lower}
 use Rattle.tree.specs.declared.Station.{Station}

@@ -1,6 +1,6 @@
 -- The published procedure: to list a station, append it; then, for each neighbour in label order that is not yet in the list, list
 -- that neighbour and append the station again.
-use Rattle.std.specs.Prelude.{ℕ, zero, suc, ◌-◌, Bool, true, false, cond, not, ◌&&◌, ◌||◌, List, [], ◌∷◌, ◌++◌, length, ◌==◌, nat_lt}
+use Rattle.std.specs.Prelude.{ℕ, zero, suc, ◌-◌, Bool, false, cond, not, ◌&&◌, ◌||◌, List, [], ◌∷◌, ◌++◌, length, ◌==◌, nat_lt}
 use Rattle.std.specs.List.{range_with_len}
 use Rattle.tree.specs.declared.Station.{Station}
 use Rattle.tree.specs.Stations.{parent_of}

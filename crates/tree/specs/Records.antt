@@ -1,5 +1,5 @@
 -- What the records of a plan file say of a cave, in file order.
-use Rattle.std.specs.Prelude.{◌≡◌, ℕ, ◌<◌, List, length, ◌≢◌, slice_index, slice_index_or}
+use Rattle.std.specs.Prelude.{ℕ, ◌<◌, List, length, ◌≢◌, slice_index, slice_index_or}
 use Rattle.label.specs.Labels.{zero_label}
 use Rattle.label.specs.declared.label.Label.{Label}
 
