@@ -1,4 +1,4 @@
-use Rattle.std.proofs.Common.{◌≡◌, ℕ, ◌+◌, ◌<◌, ◌≤◌, length, get_or}
+use Rattle.std.proofs.Common.{◌≡◌, ◌+◌, ◌≤◌, get_or}
 use Rattle.tree.specs.Turned.{Turned}
 use Rattle.chart.proofs.turn.reverse.Given as goal
 
