@@ -1,5 +1,5 @@
 -- What an answer by indices says of labels.
-use Rattle.std.proofs.Common.{◌≡◌, ℕ, ◌+◌, ◌-◌, ◌<◌, ◌≤◌, Bool, true, false, eqb, ◌⊎◌, List, [], ◌∷◌, map, length, get_or, take, drop, is_some, Some, None, Decides, Option, sym, refl, ap, ◌∙◌, subst, inl, inr, ⊎_elim, true≢false, arith}
+use Rattle.std.proofs.Common.{◌≡◌, ℕ, ◌-◌, ◌<◌, ◌≤◌, Bool, false, eqb, List, ◌∷◌, map, length, take, drop, is_some, Some, None, Decides, Option, sym, refl, ap, ◌∙◌, subst, ⊎_elim, true≢false, arith}
 use Rattle.std.proofs.lemmas.Bool.{cases_lt, eqb-true, eq-eqb}
 use Rattle.label.specs.declared.label.Label.{Label}
 use Rattle.tree.specs.declared.Station.{Station}
@@ -12,7 +12,7 @@ use Rattle.tree.specs.Index.{Found}
 use Rattle.tree.specs.Walks.{walk_from, walk_labels, first_place}
 use Rattle.tree.specs.WalkLaws.{FirstPlace}
 use Rattle.tree.proofs.Courses.{course_way}
-use Rattle.tree.proofs.Meaning.{root_held, above_held, above_is, depth_is, deepest_is, at_depth_is}
+use Rattle.tree.proofs.Meaning.{above_held, above_is, depth_is, deepest_is, at_depth_is}
 use Rattle.tree.proofs.Walking.{first_place_lem}
 use Rattle.ways.specs.Calls.{WayTold, CountsAs}
 

@@ -1,12 +1,12 @@
 -- The walk in a buffer, by indices, and what its entries and places say of labels.
-use Rattle.std.proofs.Common.{◌≡◌, ℕ, zero, suc, ◌+◌, ◌-◌, ◌<◌, ◌≤◌, ◌⊎◌, List, [], ◌∷◌, map, length, get_or, take, Some, None, Option, unwrap_or, sym, refl, ap, ◌∙◌, subst, inl, inr, ⊎_elim, arith}
+use Rattle.std.proofs.Common.{◌≡◌, ℕ, ◌-◌, ◌<◌, ◌≤◌, ◌⊎◌, List, length, get_or, take, Option, unwrap_or, sym, ap, ◌∙◌, subst, ⊎_elim, arith}
 use Rattle.std.proofs.lemmas.List.{get_or-take, get_or-map, get_or_past}
 use Rattle.label.specs.declared.label.Label.{Label}
 use Rattle.tree.specs.declared.Station.{Station}
 use Rattle.tree.specs.Stations.{Canonical, station_label}
 use Rattle.tree.specs.Caves.{root_label}
 use Rattle.tree.specs.Index.{Found}
-use Rattle.tree.specs.Walks.{walk_from, tour_from, walk_labels, first_place}
+use Rattle.tree.specs.Walks.{walk_from, walk_labels, first_place}
 use Rattle.tree.proofs.Turns.{walk_step}
 use Rattle.tree.proofs.Walking.{entry_inside, labels_long}
 use Rattle.ways.specs.Calls.{Placed, entry_at}

@@ -1,5 +1,5 @@
 -- What the calls of a plan answer, in labels, legs and ways.
-use Rattle.std.specs.Prelude.{◌≡◌, ℕ, zero, ◌-◌, ◌<◌, ◌≤◌, ◌⊎◌, List, ◌∷◌, length, take, drop, Some, None, Option, slice_index_or}
+use Rattle.std.specs.Prelude.{◌≡◌, ℕ, ◌-◌, ◌<◌, ◌≤◌, ◌⊎◌, List, ◌∷◌, length, take, drop, Some, None, Option, slice_index_or}
 use Rattle.label.specs.declared.label.Label.{Label}
 use Rattle.tree.specs.declared.Station.{Station}
 use Rattle.tree.specs.Ways.{Way}

@@ -1,4 +1,4 @@
-use Rattle.std.proofs.Common.{◌≡◌, ℕ, ◌-◌, sym, ap, ◌∙◌, arith}
+use Rattle.std.proofs.Common.{ℕ, ◌-◌, ap, ◌∙◌, arith}
 use Rattle.tree.specs.Stations.{rooted}
 use Rattle.tree.proofs.Climbs.{depth_pos}
 use Rattle.tree.specs.Trees.{climb}

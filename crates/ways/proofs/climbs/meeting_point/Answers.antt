@@ -1,4 +1,4 @@
-use Rattle.std.proofs.Common.{◌≡◌, ℕ, ◌<◌, ◌≤◌, length, sym, ap, subst, arith}
+use Rattle.std.proofs.Common.{ℕ, ◌<◌, ◌≤◌, length, sym, ap, subst, arith}
 use Rattle.tree.specs.Stations.{rooted, parent_of, depth_of}
 use Rattle.tree.proofs.Steps.{Closing, closing_left, closing_right}
 use Rattle.ways.proofs.climbs.meeting_point.Goals as goal

@@ -1,4 +1,4 @@
-use Rattle.std.proofs.Common.{◌≡◌, ℕ, ◌-◌, ◌<◌, length, sym, ap, ◌∙◌, subst, arith}
+use Rattle.std.proofs.Common.{ℕ, ◌-◌, ◌<◌, ap, ◌∙◌, arith}
 use Rattle.tree.specs.Trees.{climb}
 use Rattle.tree.specs.Stations.{rooted, parent_of, depth_of}
 use Rattle.tree.proofs.Steps.{climb_up}

@@ -1,4 +1,4 @@
-use Rattle.std.proofs.Common.{◌≡◌, ℕ, ◌<◌, ◌≤◌, List, [], ◌∷◌, length, sym, ap, arith, length-append}
+use Rattle.std.proofs.Common.{[], ◌∷◌, length, ap, arith, length-append}
 use Rattle.tree.specs.Courses.{course_from}
 use Rattle.tree.specs.Stations.{rooted, parent_of, depth_of}
 use Rattle.tree.proofs.Courses.{course_met, course_from_right, course_from-left, course_short}

@@ -1,9 +1,9 @@
-use Rattle.std.proofs.Common.{◌≡◌, ℕ, ◌+◌, ◌<◌, ◌≤◌, List, [], ◌∷◌, ◌++◌, map, length, take, drop, set, sym, refl, ap, ◌∙◌, subst, arith, length-append, length-set, rules}
+use Rattle.std.proofs.Common.{◌≡◌, List, [], ◌∷◌, ◌++◌, map, length, take, drop, set, sym, refl, ap, ◌∙◌, arith, length-append, length-set}
 use lib.ListN.{length-map}
 use Rattle.std.proofs.lemmas.List.{map-append}
 use Rattle.label.specs.declared.label.Label.{Label}
 use Rattle.tree.specs.Courses.{course_from}
-use Rattle.tree.specs.Stations.{rooted, station_label, parent_of, depth_of}
+use Rattle.tree.specs.Stations.{station_label, parent_of, depth_of}
 use Rattle.tree.proofs.Courses.{course_met, course_from_right, course_from-left, course_short}
 use Rattle.ways.proofs.Writing.{write_back, write_front, write_last, written_front}
 use Rattle.ways.proofs.courses.write_course.Goals as goal

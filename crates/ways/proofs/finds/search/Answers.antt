@@ -1,6 +1,5 @@
-use Rattle.std.proofs.Common.{◌≡◌, sym, ap, ◌∙◌}
+use Rattle.std.proofs.Common.{sym, ap, ◌∙◌}
 use Rattle.label.specs.Orders.{key_of}
-use Rattle.tree.specs.Stations.{station_label}
 use Rattle.tree.proofs.Indexing.{seek_here, seek-next, seek_end}
 use Rattle.ways.proofs.finds.search.Goals as goal
 

@@ -1,4 +1,4 @@
-use Rattle.std.proofs.Common.{◌≡◌, ℕ, ◌-◌, List, map, length, take, drop, sym, refl, ap, ◌∙◌, subst, arith}
+use Rattle.std.proofs.Common.{◌≡◌, ℕ, ◌-◌, List, map, length, take, drop, sym, ap, ◌∙◌, subst, arith}
 use Rattle.label.specs.declared.label.Label.{Label}
 use Rattle.tree.specs.Stations.{station_label}
 use Rattle.tree.specs.Walks.{walk_from, walk_labels}

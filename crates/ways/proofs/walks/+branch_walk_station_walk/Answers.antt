@@ -1,15 +1,15 @@
-use Rattle.std.proofs.Common.{◌≡◌, ℕ, ◌+◌, ◌<◌, List, [], ◌∷◌, ◌++◌, length, take, set, sym, refl, ap, ◌∙◌, subst, append_assoc, append-nil, arith, length-set, rules}
+use Rattle.std.proofs.Common.{ℕ, ◌<◌, List, [], ◌∷◌, ◌++◌, length, take, sym, refl, ap, ◌∙◌, append_assoc, append-nil, arith, length-set}
 use Rattle.std.proofs.lemmas.List.{take_more_set}
 use Rattle.tree.specs.Walks.{walk_from, tour_from}
-use Rattle.tree.proofs.Turns.{tour_left, walk_step, walk_length, level_falls, level_same, tour_start, tour_yes, tour_no, tour_end, tour_length, turn}
+use Rattle.tree.proofs.Turns.{walk_step, walk_length, level_falls, level_same, tour_start, tour_yes, tour_no, tour_end, tour_length, turn}
 use Rattle.ways.proofs.walks.+branch_walk_station_walk.Goals as goal
 use Rattle.ways.proofs.walks.+branch_walk_station_walk.Goals.{branch_walk-then-parent_of-at, branch_walk-else-parent_of-at}
 
 pub branch_walk-loop-j-init : goal.branch_walk-loop-j-init
 branch_walk-loop-j-init t c = rw (tour_start c.args.ps.now c.args.at) (refl, refl)
 
-pub branch_walk_station_walk-fill-requires : goal.branch_walk_station_walk-fill-requires
-branch_walk_station_walk-fill-requires t c = (
+pub branch_walk-station_walk-fill-requires : goal.branch_walk-station_walk-fill-requires
+branch_walk-station_walk-fill-requires t c = (
   level_falls c.args.ps.now c.requires.lawful c.args.at c.loop-j.j t c.requires.known c.loop-j.auto.j c.loop-j-test.true (sym c.parent_of.ensures ∙ c.if-parent_of-at.true) c.decreases,
   (c.requires.lawful, (c.loop-j-test.true, omega (arith, tour_length c.args.ps.now c.args.at c.loop-j.j c.loop-j-test.true (sym c.parent_of.ensures ∙ c.if-parent_of-at.true)))),
 )

@@ -1,4 +1,4 @@
-use Rattle.std.proofs.Common.{◌≡◌, ◌+◌, ◌-◌, ◌*◌, ◌≤◌, ◌++◌, length, take}
+use Rattle.std.proofs.Common.{◌≡◌, ◌+◌, ◌-◌, ◌*◌, ◌++◌, length, take}
 use Rattle.tree.specs.Stations.{parent_of, depth_of}
 use Rattle.tree.specs.Walks.{tour_from}
 use Rattle.tree.proofs.Sizes.{below}
