@@ -1,6 +1,6 @@
 pub mod Codings
 pub mod Labels
 pub mod Positions
+pub mod PositionsLemmas
 pub mod Ranges
 pub mod Slots
-pub mod PositionsLemmas

@@ -1,5 +1,5 @@
 -- A position as its two bytes, high byte first.
-use Rattle.std.specs.Prelude.{◌≡◌, ℕ, ◌+◌, ◌*◌, ◌/◌, ◌%◌, List, [], ◌∷◌, Some, None, Option}
+use Rattle.std.specs.Prelude.{ℕ, ◌+◌, ◌*◌, ◌/◌, ◌%◌, List, [], ◌∷◌, None, Option}
 use Rattle.label.specs.Labels.{passed}
 use Rattle.slot.specs.Codings.{Coding}
 use Rattle.slot.specs.Ranges.{in_range, cut, cut_in_range}

@@ -1,8 +1,7 @@
--- Positions in their slots.
-use Rattle.std.specs.Prelude.{◌≡◌, ℕ, ◌+◌, ◌*◌, ◌/◌, ◌%◌, ◌≤◌, List, [], ◌∷◌, length, Some, nat_le, slice_index, refl}
-use Rattle.std.proofs.Common.{sym, ap, ◌∙◌, arith}
-use Rattle.std.proofs.lemmas.Slice.Eq.{text_from_reads}
-use Rattle.std.proofs.lemmas.Bool.{and_parts, leb-true}
+-- What the laws of `Kind` at positions cite.
+use Rattle.std.specs.Prelude.{◌≡◌, ◌+◌, ◌*◌, ◌/◌, ◌%◌, Bool, Some, Decides}
+use Rattle.std.proofs.Common.{sym, ap, ◌∙◌, eqb, arith}
+use Rattle.std.proofs.lemmas.Bool.{eqb-true, eq-eqb}
 use Rattle.label.proofs.Reading.{passed_true}
 use Rattle.slot.specs.Ranges.{in_range}
 use Rattle.slot.specs.Positions.{position_at, position_of, position_bytes}
@@ -23,10 +22,6 @@ same_position p q e =
     let r = ap position_at e in
     cc
 
-pub number_bounds : (p : Position) → (1 ≤ p.value) × (p.value ≤ 2047)
-number_bounds p =
-    let b = and_parts (nat_le 1 p.value) (nat_le p.value 2047) p.ok in
-    (leb-true 1 p.value b.0, leb-true p.value 2047 b.1)
-
-pub two : (xs : List ℕ) → length xs ≡ 2 → xs ≡ slice_index xs 0 ∷ slice_index xs 1 ∷ []
-two xs h = text_from_reads xs _ h (refl, (refl, tt))
+-- whether the numbers are the same tells whether the positions are
+pub same_number : (p q : Position) (r : Bool) → r ≡ eqb p.value q.value → Decides r (p ≡ q)
+same_number p q r h = (λ e. same_position p q (eqb-true _ _ (sym h ∙ e)), λ e. h ∙ eq-eqb _ _ (ap (λ (x : Position). x.value) e))

@@ -1,13 +1,11 @@
 // A kind of value: how wide its slot is, and how a slot is read and written.
 ghost use Rattle.std.specs.Prelude.{◌≡◌, ℕ, ◌<◌, ◌≤◌, Bool, List, [], ◌∷◌, length, Some, None, Decides, Option};
-ghost use Rattle.std.proofs.Common.{ap, rules, arith};
+ghost use Rattle.std.proofs.Common.{rules};
 ghost use Rattle.label.specs.Labels.{bytes_of, label_of};
 ghost use Rattle.slot.specs.Positions.{position_of, position_bytes};
 ghost use Rattle.slot.specs.Slots.{laid};
-ghost use Rattle.label.proofs.Reading.{read_written, same_label_lem};
-ghost use Rattle.slot.specs.PositionsLemmas as Positions;
-ghost use Rattle.slot.specs.declared.position.Position.{Position};
-ghost use Rattle.slot.specs.PositionsLemmas.{same_position};
+ghost use Rattle.label.proofs.Reading.{read_written, same_bytes};
+ghost use Rattle.slot.specs.PositionsLemmas.{read_written as position_read_written, same_number};
 
 use crate::laying::lay;
 use crate::position::Position;
@@ -74,9 +72,7 @@ impl Kind for Label {
 
     ghost empty = { Prim.search rules };
 
-    ghost equal = { λ x y r h.
-        let k : Decides r (bytes_of x ≡ bytes_of y) = Prim.search rules in
-        (λ e. same_label_lem x y (k.0 e), λ e. k.1 (ap bytes_of e)) };
+    ghost equal = { same_bytes };
 
     ghost written = { read_written };
 
@@ -115,21 +111,19 @@ impl Kind for Position {
 
     ghost blank = { 0 ∷ 0 ∷ [] };
 
-    ghost missing = { first_of (Prim.search rules, Prim.grind (arith, Self.row.coded.inj)) };
+    ghost missing = { Prim.search rules };
 
-    ghost empty = { first_of (Prim.search rules, Prim.grind (arith, Self.row.coded.inj)) };
+    ghost empty = { Prim.search rules };
 
-    ghost equal = { λ x y r h.
-        let k : Decides r (x.value ≡ y.value) = Prim.search rules in
-        (λ e. same_position x y (k.0 e), λ e. k.1 (ap (λ (p : Position). p.value) e)) };
+    ghost equal = { same_number };
 
-    ghost written = { Positions.read_written };
+    ghost written = { position_read_written };
 
-    ghost long = { first_of (Prim.search rules, Prim.grind (arith, Self.row.coded.inj)) };
+    ghost long = { Prim.search rules };
 
-    ghost some = { first_of (Prim.search rules, Prim.grind (arith, Self.row.coded.inj)) };
+    ghost some = { Prim.search rules };
 
-    ghost narrow = { first_of (Prim.search rules, Prim.grind (arith, Self.row.coded.inj)) };
+    ghost narrow = { Prim.search rules };
 
     fn slot_width() -> usize {
         Self::WIDTH

@@ -1,6 +1,6 @@
-use Rattle.std.proofs.Common.{◌≡◌, sym, ap, ◌∙◌}
+use Rattle.std.proofs.Common.{sym, ap, ◌∙◌}
 use Rattle.slot.specs.Positions.{position_of}
-use Rattle.slot.specs.PositionsLemmas.{two}
+use Rattle.slot.proofs.Positions.{two}
 use Rattle.slot.proofs.kind.PositionKind.read.Goals as goal
 
 pub returns : goal.returns
