@@ -1,7 +1,7 @@
 -- One more byte, and its two digits.
-use Rattle.std.proofs.Common.{◌≡◌, ℕ, zero, suc, ◌+◌, ◌*◌, ◌/◌, ◌%◌, ◌<◌, ◌≤◌, true, ◌≢◌, ◌⊎◌, List, [], ◌∷◌, ◌++◌, length, get_or, take, is_err, IfOk, IfErr, Ok, Err, Result, sym, refl, ap, ◌∙◌, inl, inr, arith}
+use Rattle.std.proofs.Common.{◌≡◌, ℕ, zero, suc, ◌+◌, ◌*◌, ◌/◌, ◌%◌, ◌<◌, true, ◌≢◌, ◌⊎◌, List, [], ◌∷◌, ◌++◌, length, get_or, take, is_err, IfOk, IfErr, Ok, Err, Result, sym, refl, ap, ◌∙◌, inl, inr, arith}
 use Rattle.std.proofs.lemmas.List.{append_assoc, take_more}
-use Rattle.script.specs.Hex.{digit_of, hex_of, Writes, NotDigit, WritesNone}
+use Rattle.script.specs.Hex.{digit_of, hex_of, NotDigit, WritesNone}
 
 hex_of-push : (xs : List ℕ) (b : ℕ) → hex_of (xs ++ b ∷ []) ≡ hex_of xs ++ digit_of (b / 16) ∷ digit_of (b % 16) ∷ []
 hex_of-push [] b = refl

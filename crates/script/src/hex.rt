@@ -60,7 +60,7 @@ pub fn read_hex(heap: Global, text: &[u8]) -> Result<Vec<u8>, HexFault>
     ensures refuses { IfErr result (λ e. (e ≡ Memory) ⊎ WritesNone text.now) }
 {
     let mut bytes = Vec::new(heap);
-    if text == b"-" {
+    if text == b"-".as_slice() {
         return Ok(bytes);
     }
     if text.len() % 2 != 0 {

@@ -92,6 +92,6 @@ fn write_callout_cause<W: fmt::Write>(f: &mut fmt::Formatter<W>, number: u8) -> 
         12 => f.write_str(
             "The text is not a label: a label has 1 to 8 signs, each a letter from A to Z, a digit or a hyphen",
         ),
-        _ => f.write_str("The call is refused"),
+        _ => f.write_str("The text is refused"),
     }
 }

@@ -1,4 +1,4 @@
-use Rattle.std.proofs.Common.{◌≡◌, ◌+◌, ◌*◌, ◌<◌, [], ◌∷◌, length, vec_items, ◌∙◌, inl, inr, arith}
+use Rattle.std.proofs.Common.{◌≡◌, ◌+◌, ◌*◌, ◌<◌, [], ◌∷◌, length, vec_items, ◌∙◌, sym, inl, inr, arith}
 use Rattle.std.proofs.lemmas.Slice.Eq.{slice_eq-Decides}
 use Rattle.std.proofs.lemmas.List.{take_all}
 use Rattle.std.proofs.lemmas.Bool.Decides.{not_from_Decides, Decides-eqb}
@@ -7,13 +7,13 @@ use Rattle.script.proofs.hex.read_hex.Goals as goal
 
 pub returns-then-eq : goal.returns-then-eq
 returns-then-eq c = record {
-  reads = inr ((slice_eq-Decides Decides-eqb _ _ _ c.eq.ensures).0 c.if-eq.true, c.new-bytes.ensures.items);
+  reads = inr ((slice_eq-Decides Decides-eqb _ _ _ c.eq.ensures).0 c.if-eq.true ∙ c.as_slice.ensures, c.new-bytes.ensures.items);
   refuses = tt;
 }
 
 pub returns-then-text-ne0 : goal.returns-then-text-ne0
 returns-then-text-ne0 c =
-    let other : c.args.text.now ≡ 45 ∷ [] → ⊥ = not_from_Decides _ (slice_eq-Decides Decides-eqb _ _ _ c.eq.ensures) c.if-eq.false in
+    let other : c.args.text.now ≡ 45 ∷ [] → ⊥ = λ (e : c.args.text.now ≡ 45 ∷ []). not_from_Decides _ (slice_eq-Decides Decides-eqb _ _ _ c.eq.ensures) c.if-eq.false (e ∙ sym c.as_slice.ensures) in
     record { reads = tt; refuses = inr (odd_none c.args.text.now c.if-text-ne0.true other) }
 
 pub loop-i-preserved : goal.loop-i-preserved
@@ -26,9 +26,9 @@ loop-i-preserved c =
 pub returns-in_err-pair : goal.returns-in_err-pair
 returns-in_err-pair c =
     let within : 2 * c.loop-i.i + 1 < length c.args.text.now = omega arith in
-    let other : c.args.text.now ≡ 45 ∷ [] → ⊥ = not_from_Decides _ (slice_eq-Decides Decides-eqb _ _ _ c.eq.ensures) c.if-eq.false in
+    let other : c.args.text.now ≡ 45 ∷ [] → ⊥ = λ (e : c.args.text.now ≡ 45 ∷ []). not_from_Decides _ (slice_eq-Decides Decides-eqb _ _ _ c.eq.ensures) c.if-eq.false (e ∙ sym c.as_slice.ensures) in
     let none = stray_none c.args.text.now c.loop-i.i within other c.in_err-pair.ensures.refuses.1 in
-    let told = of_error c.from-residual.result _ _ c.from-residual.ensures.0 (λ e. inr none) in
+    let told = of_error c.from_residual.result _ _ c.from_residual.ensures.0 (λ e. inr none) in
     record { reads = told.0; refuses = told.1 }
 
 pub returns : goal.returns
