@@ -1,5 +1,5 @@
 -- The stations of the example cave are those of its records.
-use Rattle.std.proofs.Common.{◌≡◌, ℕ, zero, suc, ◌+◌, ◌-◌, ◌<◌, ◌≤◌, ◌⊎◌, List, [], ◌∷◌, length, get_or, sym, refl, ap, ◌∙◌, subst, inl, inr, ⊎_elim, arith}
+use Rattle.std.proofs.Common.{◌≡◌, ℕ, zero, suc, ◌<◌, ◌≤◌, ◌⊎◌, List, [], ◌∷◌, get_or, sym, refl, ap, ◌∙◌, inl, inr, arith}
 use Rattle.label.specs.declared.label.Label.{Label}
 use Rattle.label.specs.Orders.{key_of}
 use Rattle.tree.specs.Records.{label_at, Different, Earlier}
@@ -10,7 +10,7 @@ use Rattle.tree.specs.Caves.{Height}
 use Rattle.tree.specs.Charts.{Charted}
 use Rattle.tree.proofs.Charts.{charted}
 use Rattle.tree.proofs.Meaning.{height_is}
-use Rattle.rehearsal.specs.Cave.{label_a9, label_c1, label_c2, label_c3, label_d1, label_ent, example_records, example_stations}
+use Rattle.rehearsal.specs.Cave.{example_records, example_stations}
 
 -- a statement on each of six
 six : (P : ℕ → Type 0) → P 0 → P 1 → P 2 → P 3 → P 4 → P 5 → (i : ℕ) → i < 6 → P i

@@ -1,10 +1,9 @@
 -- The worked examples of grading, computed.
-use Rattle.std.proofs.Common.{◌≡◌, ℕ, zero, suc, ◌<◌, ◌≤◌, true, false, refl, arith}
+use Rattle.std.proofs.Common.{zero, suc, refl, arith}
 use Rattle.std.proofs.lemmas.Bool.{false≢true}
 use Rattle.slot.specs.Codings.{Coding}
 use Rattle.slot.specs.Labels.{label_coding}
 use Rattle.slot.specs.Positions.{position_coding}
-use Rattle.wire.specs.Units.{Honest}
 use Rattle.wire.specs.Crews.{SameCrew}
 use Rattle.wire.specs.Runs.{Takes}
 use Rattle.grading.specs.Exchanges.{starting, Exchange}

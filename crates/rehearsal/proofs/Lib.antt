@@ -2,3 +2,4 @@ pub mod Example
 pub mod Examples
 pub mod Gradings
 pub mod Lines
+pub mod Rounds

@@ -1,5 +1,5 @@
 -- The example cave: legs ENT–A9, ENT–C1, C1–C2, C1–C3, C3–D1.
-use Rattle.std.specs.Prelude.{ℕ, true, List, [], ◌∷◌}
+use Rattle.std.specs.Prelude.{true, List, [], ◌∷◌}
 use Rattle.label.specs.declared.label.Label.{Label}
 use Rattle.tree.specs.declared.Station.{Station}
 use Rattle.tree.specs.Records.{Records}

@@ -1,9 +1,6 @@
 -- Worked examples of the two lines.
-use Rattle.std.specs.Prelude.{◌≡◌, ℕ, zero, suc, true, List, [], ◌∷◌, map, Some, None, Option}
-use Rattle.std.proofs.Common.{lit≤}
+use Rattle.std.specs.Prelude.{◌≡◌, ℕ, List, [], ◌∷◌, map, Some, None, Option}
 use Rattle.slot.specs.Positions.{position_near, position_bytes}
-use Rattle.wire.specs.Boxes.{Box}
-use Rattle.wire.specs.declared.crew.Crew.{Crew}
 use Rattle.trim.specs.Iterations.{graded_iterations}
 use Rattle.lines.specs.Gradeds.{graded_model}
 use Rattle.lines.specs.Halvings.{halving_model}

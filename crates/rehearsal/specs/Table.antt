@@ -1,5 +1,5 @@
 -- The worked examples.
-use Rattle.std.specs.Prelude.{◌≡◌, ℕ, ◌/◌, ◌%◌, true, List, [], ◌∷◌, ◌++◌, replicate, Ok, Err}
+use Rattle.std.specs.Prelude.{◌≡◌, ℕ, true, List, [], ◌∷◌, ◌++◌, replicate, Ok, Err}
 use Rattle.label.specs.declared.label.Label.{Label}
 use Rattle.label.specs.declared.fault.Layer.TheVariants.{Plan, Callout}
 use Rattle.label.specs.declared.fault.TextFault.TheVariants.{NoLabel}

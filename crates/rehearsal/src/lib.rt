@@ -3,6 +3,7 @@
 
 ghost use Rattle.std.specs.Prelude.{◌≡◌, length};
 ghost use Rattle.rehearsal.specs.Cave.{example_stations};
+ghost use Rattle.rehearsal.specs.Rounds.{WorkedRounds};
 ghost use Rattle.rehearsal.specs.Table.{Worked};
 
 // How many stations the example cave has; its contract names the table of worked examples.
@@ -11,6 +12,14 @@ pub fn example_size() -> usize
     ensures table { Worked }
 {
     6
+}
+
+// How many units the examples of the rounds have; its contract names the table of their worked examples.
+pub fn example_units() -> usize
+    ensures value { result ≡ 4 }
+    ensures table { WorkedRounds }
+{
+    4
 }
 
 #[cfg(test)]
