@@ -1,18 +1,16 @@
 -- Every exchange keeps the promise of grading.
-use Rattle.std.proofs.Common.{◌≡◌, ℕ, suc, ◌+◌, ◌-◌, ◌*◌, ◌<◌, ◌≤◌, Bool, true, false, cond, List, map, length, get_or, Some, None, Option, sym, refl, ap, ◌∙◌, ⊎_elim, arith}
-use Rattle.std.specs.List.{range_with_len}
+use Rattle.std.proofs.Common.{◌≡◌, ℕ, ◌<◌, ◌≤◌, Bool, true, false, cond, List, get_or, Some, None, Option, sym, ap, ◌∙◌, ⊎_elim, arith}
 use Rattle.std.proofs.lemmas.List.FromFn.{length-map-range_with_len, get_or-map-range_with_len}
 use Rattle.std.proofs.lemmas.Bool.{cases_lt, cond-true, cond-false}
 use Rattle.slot.specs.Codings.{Coding, Lawful}
 use Rattle.wire.specs.Boxes.{Box, from}
-use Rattle.wire.specs.Runs.{ran}
-use Rattle.wire.specs.Slots.{slot_of, slot_from, slotted, column, vote}
-use Rattle.wire.specs.Units.{Honest, Faults}
+use Rattle.wire.specs.Slots.{slot_of, slot_from, slotted, column}
+use Rattle.wire.specs.Units.{Honest}
 use Rattle.wire.proofs.Counts.{honest_below}
 use Rattle.wire.proofs.Runs.{played}
 use Rattle.wire.proofs.Slotted.{slotted-read}
 use Rattle.grading.specs.Grades.{grade_value, grade_of}
-use Rattle.grading.specs.Gradings.{heard_from, voted_for, grade_by, unless_distrusted, begun, after, frame_of, grade_at}
+use Rattle.grading.specs.Gradings.{heard_from, voted_for, grade_by, unless_distrusted, after, frame_of}
 use Rattle.grading.specs.Exchanges.{Start, starting, Trusts, Distrusts, Exchange, grade_held, Broadcast, GradedBroadcast}
 use Rattle.grading.specs.declared.grade.Grade.{Grade}
 use Rattle.grading.specs.declared.grade.Grade.TheVariants.{Two, Zero}

@@ -1,11 +1,11 @@
 -- One sender's slot in rounds 2 and 3, at every unit.
-use Rattle.std.proofs.Common.{◌≡◌, ℕ, ◌+◌, ◌-◌, ◌*◌, ◌<◌, ◌≤◌, Bool, List, length, get_or, Some, None, Option, sym, refl, ap, ◌∙◌, ⊎_elim, arith}
+use Rattle.std.proofs.Common.{◌≡◌, ℕ, ◌+◌, ◌-◌, ◌*◌, ◌≤◌, Bool, List, length, get_or, Some, None, Option, sym, refl, ap, ◌∙◌, ⊎_elim, arith}
 use Rattle.slot.specs.Codings.{Coding, Lawful}
 use Rattle.wire.specs.Slots.{holds, count, vote}
 use Rattle.wire.specs.Units.{Honest, Faults}
 use Rattle.wire.proofs.Counts.{agree, some_honest_lem, all_honest}
 use Rattle.wire.proofs.Votes.{holds_is, holds_self, cases_same, two_values}
-use Rattle.grading.specs.Grades.{grade_value, alone, only, or_lower, grade_of, GradedBy}
+use Rattle.grading.specs.Grades.{grade_value, grade_of, GradedBy}
 use Rattle.grading.specs.declared.grade.Grade.{Grade}
 use Rattle.grading.specs.declared.grade.Grade.TheVariants.{Two, One, Zero}
 use Rattle.grading.proofs.Grades.{votes, vote_none, graded_by, value_none}

@@ -1,16 +1,14 @@
 -- The rounds of a grading, by what came in them.
-use Rattle.std.proofs.Common.{◌≡◌, ℕ, ◌+◌, ◌-◌, ◌*◌, ◌<◌, ◌≤◌, Bool, true, false, cond, ◌&&◌, eqb, ltb, List, [], ◌++◌, map, length, get_or, take, drop, replicate, Some, None, Option, sym, refl, ap, ◌∙◌, ⊎_elim, arith, take_at}
+use Rattle.std.proofs.Common.{◌≡◌, ℕ, ◌+◌, ◌-◌, ◌*◌, ◌≤◌, false, ◌&&◌, eqb, ltb, List, length, get_or, take, drop, replicate, Some, None, Option, sym, refl, ap, ◌∙◌, ⊎_elim, arith, take_at}
 use Rattle.std.specs.List.{range_with_len}
 use Rattle.std.proofs.lemmas.List.FromFn.{get_or-map-range_with_len}
 use Rattle.std.proofs.lemmas.Bool.{cases_lt, cond-false, and_left, le-ltb}
 use Rattle.slot.specs.Codings.{Coding, Lawful}
 use Rattle.wire.specs.Boxes.{Box, from}
-use Rattle.wire.specs.Slots.{slot_of, slot_from, slotted, column, reaches, vote}
+use Rattle.wire.specs.Slots.{slot_of, slot_from, slotted, column, reaches}
 use Rattle.wire.proofs.Slotted.{slotted-length, slotted-read}
-use Rattle.grading.specs.Grades.{grade_value, grade_of, sure}
-use Rattle.grading.specs.Gradings.{heard_from, voted_for, grade_by, unless_distrusted, tabled, sure_marks, begun, after, frame_of, grade_kept, grade_at, ByRounds}
-use Rattle.wire.specs.declared.crew.Crew.{Crew}
-use Rattle.grading.specs.declared.grade.Grade.{Grade}
+use Rattle.grading.specs.Grades.{grade_value, sure}
+use Rattle.grading.specs.Gradings.{heard_from, voted_for, grade_by, unless_distrusted, tabled, sure_marks, grade_kept, ByRounds}
 use Rattle.grading.specs.declared.grade.Grade.TheVariants.{Zero}
 use Rattle.grading.proofs.Grades.{kept_is, first_of_none, no_votes, graded_by}
 

@@ -1,5 +1,5 @@
 -- A table of slots that a loop fills.
-use Rattle.std.proofs.Common.{◌≡◌, ℕ, suc, ◌+◌, ◌-◌, ◌*◌, ◌<◌, ◌≤◌, cond, leb, List, [], ◌++◌, length, take, drop, replicate, Option, sym, refl, ap, ◌∙◌, subst, append-nil, mul-le-mul_right, mul-le-mul_left, mul-suc, add-one, arith, length-drop, take-append-drop, length-take, drop-drop}
+use Rattle.std.proofs.Common.{◌≡◌, ℕ, suc, ◌+◌, ◌-◌, ◌*◌, ◌<◌, ◌≤◌, leb, List, ◌++◌, length, take, drop, replicate, Option, sym, ap, ◌∙◌, subst, append-nil, mul-le-mul_right, mul-le-mul_left, mul-suc, add-one, arith, length-drop, take-append-drop, length-take, drop-drop}
 use borrow.Rule.Slice.PartMut.{put_mid}
 use Rattle.std.proofs.lemmas.List.{drop_all, drop-replicate}
 use Rattle.std.proofs.lemmas.Slice.{take-put_mid, drop-put_mid}

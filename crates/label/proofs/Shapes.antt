@@ -77,11 +77,11 @@ split_signs : (bs : List ℕ) (n : ℕ) → Split bs n → signs_then_blanks bs 
 split_signs [] n p = refl
 split_signs (b ∷ bs) zero p = way (sign b) refl
   where
-    isBlank : b ≡ 32
-    isBlank = p.back 0 (omega arith) (omega arith)
+    is_blank : b ≡ 32
+    is_blank = p.back 0 (omega arith) (omega arith)
 
     way : (t : Bool) → sign b ≡ t → cond t (signs_then_blanks bs) (blanks (b ∷ bs)) ≡ true
-    way true s = absurd (both_ways (sign b) (ap sign isBlank ∙ blank_no_sign) s)
+    way true s = absurd (both_ways (sign b) (ap sign is_blank ∙ blank_no_sign) s)
     way false s = all_blanks (b ∷ bs) (λ i l. p.back i (omega arith) l)
 split_signs (b ∷ bs) (suc n) p = rw (p.front 0 (omega arith)) (split_signs bs n (split_rest b bs n p))
 

@@ -1,11 +1,11 @@
 -- What a line agreement is: its meaning as functions on its state, its runs, and the laws that every one owes.
-use Rattle.std.specs.Prelude.{◌≡◌, ℕ, ◌+◌, ◌≤◌, Bool, List, [], length, Option}
+use Rattle.std.specs.Prelude.{◌≡◌, ℕ, ◌≤◌, Bool, List, [], length, Option}
 use Rattle.slot.specs.Ranges.{cut}
 use Rattle.wire.specs.Boxes.{Box}
 use Rattle.wire.specs.Crews.{SameCrew}
 use Rattle.wire.specs.Runs.{ran, Takes, Played}
 use Rattle.wire.specs.Spreads.{Spread, Between}
-use Rattle.wire.specs.Units.{Honest, Faults}
+use Rattle.wire.specs.Units.{Faults}
 use Rattle.wire.specs.declared.crew.Crew.{Crew}
 
 -- the span that a line takes for the one handed in: the nearer end of 1 to 2,047, where that lies outside

@@ -1,8 +1,7 @@
 -- The graded line keeps the laws of a line that speak of one unit.
-use Rattle.std.specs.Prelude.{◌≡◌, ℕ, zero, suc, ◌+◌, ◌-◌, ◌*◌, ◌<◌, ◌≤◌, Bool, true, false, List, [], length, ◌≢◌, refl}
-use Rattle.std.proofs.Common.{sym, ap, ◌∙◌, arith, length-take}
+use Rattle.std.specs.Prelude.{◌≡◌, ℕ, zero, suc, ◌-◌, ◌*◌, ◌≤◌, Bool, true, false, [], length, ◌≢◌, refl}
+use Rattle.std.proofs.Common.{ap, ◌∙◌, arith, length-take}
 use Rattle.std.proofs.lemmas.List.FromFn.{length-map-range_with_len}
-use Rattle.slot.specs.Codings.{Coding}
 use Rattle.slot.specs.Positions.{number_of, position_near, position_coding}
 use Rattle.slot.specs.declared.position.Position.{Position}
 use Rattle.wire.specs.Boxes.{Box}
@@ -13,7 +12,7 @@ use Rattle.trim.proofs.Entries.{step_in}
 use Rattle.trim.proofs.Iterations.{worsts}
 use Rattle.trim.proofs.Steps.{steps}
 use Rattle.grading.specs.Grades.{grade_value}
-use Rattle.grading.specs.Gradings.{frame_in, frame_of, after_in, after, over, grade_at}
+use Rattle.grading.specs.Gradings.{frame_in, after_in, after, over, grade_at}
 use Rattle.grading.specs.declared.grading.Grading.{Grading}
 use Rattle.grading.specs.declared.stage.Stage.{Stage}
 use Rattle.grading.specs.declared.stage.Stage.TheVariants.{Sending, Relaying, Voting, Graded as Ended}

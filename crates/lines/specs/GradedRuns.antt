@@ -1,5 +1,5 @@
 -- Those who follow the graded line agree, and how fast they do.
-use Rattle.std.specs.Prelude.{◌≡◌, ℕ, zero, suc, ◌+◌, ◌-◌, ◌*◌, ◌<◌, ◌≤◌, Bool, true, false, not, ◌&&◌, ◌||◌, List, map, length, get_or, Some, None, count_by, Option, ◌≢◌, nat_lt, slice_index_or, refl}
+use Rattle.std.specs.Prelude.{◌≡◌, ℕ, zero, suc, ◌+◌, ◌-◌, ◌*◌, ◌<◌, ◌≤◌, Bool, true, false, not, ◌&&◌, ◌||◌, List, map, get_or, Some, None, count_by, Option, ◌≢◌, nat_lt, slice_index_or, refl}
 use Rattle.std.proofs.Common.{sym, ◌∙◌, arith}
 use Rattle.std.proofs.Math.Path.{ap}
 use Rattle.std.proofs.Math.Logic.{⊎_elim}
@@ -7,18 +7,18 @@ use Rattle.std.specs.List.{range_with_len}
 use Rattle.std.proofs.lemmas.List.FromFn.{length-map-range_with_len, get_or-map-range_with_len}
 use Rattle.std.proofs.lemmas.List.{get_or_past}
 use Rattle.std.proofs.lemmas.Bool.{cases_lt, cases_order, true≢false, false≢true, ltb-true, lt-ltb, and_parts, and_cases, or_from, or_left, or_right, not-true, not-false, not_from_true, not_from_false}
-use Rattle.slot.specs.Positions.{number_of, position_at, position_near, position_coding}
+use Rattle.slot.specs.Positions.{number_of, position_at, position_coding}
 use Rattle.slot.specs.declared.position.Position.{Position}
 use Rattle.slot.proofs.Laws.{position_lawful}
 use Rattle.slot.specs.PositionsLemmas.{position_at_lem}
-use Rattle.wire.specs.Boxes.{Box, from}
+use Rattle.wire.specs.Boxes.{Box}
 use Rattle.wire.specs.Runs.{Takes}
 use Rattle.wire.specs.Spreads.{Spread}
-use Rattle.wire.specs.Units.{Honest, Faults}
+use Rattle.wire.specs.Units.{Honest}
 use Rattle.wire.proofs.Counts.{honest_below}
 use Rattle.trim.specs.Entries.{entry_of}
 use Rattle.trim.specs.Iterations.{worst, graded_iterations}
-use Rattle.trim.specs.Runs.{Settled, LineRun, GradedRun, marked}
+use Rattle.trim.specs.Runs.{Settled, GradedRun, marked}
 use Rattle.trim.specs.Trims.{graded_step}
 use Rattle.trim.proofs.Runs.{runs}
 use Rattle.grading.specs.Exchanges.{Start, starting, Exchange, Broadcast}
@@ -29,8 +29,8 @@ use Rattle.grading.specs.declared.grade.Grade.TheVariants.{Two, One, Zero}
 use Rattle.grading.proofs.Broadcasts.{graded_broadcast}
 use Rattle.line.specs.Models.{span_of, position_in, LineStart, Follow, Agreed, Agree}
 use Rattle.lines.specs.Converges.{UnequalLists, averaged_list, position_after, GradedConverges}
-use Rattle.lines.specs.Gradeds.{graded_positions, averaged, thrice, graded_model}
-use Rattle.lines.specs.Iterated.{Held, ended, heldAfter, thrice_less, frame_one, frame_two, frame_three, ended_is, result_is, first_own, next_own, first_distrust, next_distrust}
+use Rattle.lines.specs.Gradeds.{graded_positions, thrice, graded_model}
+use Rattle.lines.specs.Iterated.{Held, ended, held_after, thrice_less, frame_one, frame_two, frame_three, ended_is, result_is, first_own, next_own, first_distrust, next_distrust}
 use Rattle.lines.specs.Somewhere.{some_honest, some_has, some_none}
 
 is_one : {K : Type 0} → Grade K → Bool
@@ -64,7 +64,7 @@ module _ (n t span : ℕ) (honest : List Bool) (st : LineStart) (box : ℕ → �
   last = graded_iterations n t (span_of span)
 
   held : ℕ → ℕ → Held
-  held r i = heldAfter (st.crew i) span (st.position i) (box i) r
+  held r i = held_after (st.crew i) span (st.position i) (box i) r
 
   abbrev place : ℕ → ℕ → ℕ
   place r i = number_of (held r i).own

@@ -1,16 +1,13 @@
 -- The halving line keeps the laws of a line.
-use Rattle.std.specs.Prelude.{◌≡◌, ℕ, zero, suc, ◌+◌, ◌-◌, ◌*◌, ◌<◌, ◌≤◌, Bool, List, [], ◌∷◌, map, length, Some, None, Option, slice_index_or, refl}
-use Rattle.std.proofs.Common.{sym, ap, subst, ◌∙◌, arith}
-use Rattle.std.specs.List.{range_with_len}
+use Rattle.std.specs.Prelude.{◌≡◌, ℕ, zero, suc, ◌-◌, ◌<◌, ◌≤◌, Bool, List, [], map, length, Some, None, Option, slice_index_or, refl}
+use Rattle.std.proofs.Common.{sym, ap, ◌∙◌, arith}
 use Rattle.std.proofs.lemmas.List.FromFn.{length-map-range_with_len, get_or-map-range_with_len}
-use Rattle.slot.specs.Ranges.{cut}
 use Rattle.slot.specs.Positions.{number_of, position_at, position_near, position_bytes, position_coding}
 use Rattle.slot.specs.declared.position.Position.{Position}
 use Rattle.slot.specs.PositionsLemmas.{position_at_lem}
 use Rattle.wire.specs.Boxes.{Box, from}
-use Rattle.wire.specs.Runs.{ran}
 use Rattle.wire.specs.Slots.{slot_from}
-use Rattle.wire.specs.Units.{Honest, Faults}
+use Rattle.wire.specs.Units.{Honest}
 use Rattle.wire.specs.declared.crew.Crew.{Crew}
 use Rattle.wire.proofs.Counts.{honest_below}
 use Rattle.trim.specs.Entries.{entry_of}
@@ -21,7 +18,7 @@ use Rattle.trim.proofs.Entries.{step_in}
 use Rattle.trim.proofs.Iterations.{worsts}
 use Rattle.trim.proofs.Runs.{runs}
 use Rattle.trim.proofs.Steps.{steps}
-use Rattle.line.specs.Models.{LineModel, span_of, position_in, line_after, LineStart, Follow, result_of, Agreed, Inside, Agree, Over, Counted, Short, Capped}
+use Rattle.line.specs.Models.{span_of, line_after, LineStart, Follow, Agreed, Inside, Agree, Over, Counted, Short, Capped}
 use Rattle.lines.specs.Halvings.{heard_positions, halving_frame, halved, halving_after, halving_model}
 use Rattle.lines.specs.declared.halving.Halving.{Halving}
 use Rattle.lines.specs.Positions.{near_is, slot_of}

@@ -1,7 +1,6 @@
 -- The halving line.
 use Rattle.std.specs.Prelude.{ℕ, zero, suc, List, [], map, Option}
 use Rattle.std.specs.List.{range_with_len}
-use Rattle.slot.specs.Ranges.{cut}
 use Rattle.slot.specs.Positions.{number_of, position_near, position_bytes, position_coding}
 use Rattle.slot.specs.declared.position.Position.{Position}
 use Rattle.wire.specs.Boxes.{Box, from}

@@ -1,9 +1,8 @@
 -- The graded line by whole iterations.
-use Rattle.std.specs.Prelude.{◌≡◌, ℕ, zero, suc, ◌+◌, ◌-◌, ◌*◌, ◌<◌, ◌≤◌, Bool, false, not, ◌||◌, List, replicate, slice_index_or}
+use Rattle.std.specs.Prelude.{◌≡◌, ℕ, zero, suc, ◌-◌, ◌<◌, ◌≤◌, Bool, false, not, ◌||◌, List, replicate, slice_index_or}
 use Rattle.std.proofs.Math.Path.{ap}
 use Rattle.std.proofs.Common.{◌∙◌}
 use native.Mathlib.Omega.{arith}
-use Rattle.std.specs.List.{range_with_len}
 use Rattle.std.proofs.lemmas.List.FromFn.{get_or-map-range_with_len}
 use Rattle.std.proofs.lemmas.List.{get_or-replicate}
 use Rattle.slot.specs.Positions.{number_of, position_near, position_coding}
@@ -40,70 +39,70 @@ module _ (crew : Crew) (span position : ℕ) (box : ℕ → Box) where
   abbrev pub ended : Held → ℕ → Grading Position
   ended h r = after position_coding (after position_coding (after position_coding (fresh h) (box (thrice r))) (box (suc (thrice r)))) (box (suc (suc (thrice r))))
 
-  unfoldable pub heldAfter : ℕ → Held
-  heldAfter zero = record { own = position_near (position_in span position); distrusted = replicate 16 false }
-  heldAfter (suc r) = record {
-    own = position_near (averaged (position_near span) (ended (heldAfter r) r));
-    distrusted = distrusted_after position_coding (ended (heldAfter r) r);
+  unfoldable pub held_after : ℕ → Held
+  held_after zero = record { own = position_near (position_in span position); distrusted = replicate 16 false }
+  held_after (suc r) = record {
+    own = position_near (averaged (position_near span) (ended (held_after r) r));
+    distrusted = distrusted_after position_coding (ended (held_after r) r);
   }
 
-  abbrev pub iterationsIn : ℕ
-  iterationsIn = graded_iterations crew.n crew.t (span_of span)
+  abbrev pub iterations_in : ℕ
+  iterations_in = graded_iterations crew.n crew.t (span_of span)
 
   abbrev state : Held → ℕ → Graded
   state h l = record { span = position_near span; grading = fresh h; left = l }
 
   -- the state between two iterations
-  pub at_base : (r : ℕ) → r ≤ iterationsIn → line_after graded_model crew span position box (thrice r) ≡ state (heldAfter r) (thrice (iterationsIn - r))
-  unfolding heldAfter
-  at_base zero h = let e : iterationsIn ≡ iterationsIn - 0 = omega arith in ap (λ k. state (heldAfter 0) (thrice k)) e
+  pub at_base : (r : ℕ) → r ≤ iterations_in → line_after graded_model crew span position box (thrice r) ≡ state (held_after r) (thrice (iterations_in - r))
+  unfolding held_after
+  at_base zero h = let e : iterations_in ≡ iterations_in - 0 = omega arith in ap (λ k. state (held_after 0) (thrice k)) e
   at_base (suc r) h =
-      let e : iterationsIn - r ≡ suc (iterationsIn - suc r) = omega arith in
-      let s = at_base r (omega arith) ∙ ap (λ k. state (heldAfter r) (thrice k)) e in
+      let e : iterations_in - r ≡ suc (iterations_in - suc r) = omega arith in
+      let s = at_base r (omega arith) ∙ ap (λ k. state (held_after r) (thrice k)) e in
       ap (λ x. graded_model.after (graded_model.after (graded_model.after x (box (thrice r))) (box (suc (thrice r)))) (box (suc (suc (thrice r))))) s
 
-  base_left : (r : ℕ) → r < iterationsIn → line_after graded_model crew span position box (thrice r) ≡ state (heldAfter r) (thrice (suc (iterationsIn - suc r)))
+  base_left : (r : ℕ) → r < iterations_in → line_after graded_model crew span position box (thrice r) ≡ state (held_after r) (thrice (suc (iterations_in - suc r)))
   base_left r h =
-      let e : iterationsIn - r ≡ suc (iterationsIn - suc r) = omega arith in
-      at_base r (omega arith) ∙ ap (λ k. state (heldAfter r) (thrice k)) e
+      let e : iterations_in - r ≡ suc (iterations_in - suc r) = omega arith in
+      at_base r (omega arith) ∙ ap (λ k. state (held_after r) (thrice k)) e
 
   -- the frames of an iteration
-  pub frame_one : (r : ℕ) → r < iterationsIn → graded_model.frame (line_after graded_model crew span position box (thrice r)) ≡ frame_of position_coding (fresh (heldAfter r))
+  pub frame_one : (r : ℕ) → r < iterations_in → graded_model.frame (line_after graded_model crew span position box (thrice r)) ≡ frame_of position_coding (fresh (held_after r))
   frame_one r h = ap graded_model.frame (base_left r h)
 
-  pub frame_two : (r : ℕ) → r < iterationsIn → graded_model.frame (line_after graded_model crew span position box (suc (thrice r)))
-      ≡ frame_of position_coding (after position_coding (fresh (heldAfter r)) (box (thrice r)))
+  pub frame_two : (r : ℕ) → r < iterations_in → graded_model.frame (line_after graded_model crew span position box (suc (thrice r)))
+      ≡ frame_of position_coding (after position_coding (fresh (held_after r)) (box (thrice r)))
   frame_two r h = ap (λ x. graded_model.frame (graded_model.after x (box (thrice r)))) (base_left r h)
 
-  pub frame_three : (r : ℕ) → r < iterationsIn → graded_model.frame (line_after graded_model crew span position box (suc (suc (thrice r))))
-      ≡ frame_of position_coding (after position_coding (after position_coding (fresh (heldAfter r)) (box (thrice r))) (box (suc (thrice r))))
+  pub frame_three : (r : ℕ) → r < iterations_in → graded_model.frame (line_after graded_model crew span position box (suc (suc (thrice r))))
+      ≡ frame_of position_coding (after position_coding (after position_coding (fresh (held_after r)) (box (thrice r))) (box (suc (thrice r))))
   frame_three r h = ap (λ x. graded_model.frame (graded_model.after (graded_model.after x (box (thrice r))) (box (suc (thrice r))))) (base_left r h)
 
   -- the grading of an iteration, at its end
-  pub ended_is : (r : ℕ) → r < iterationsIn → after position_coding (line_after graded_model crew span position box (suc (suc (thrice r)))).grading (box (suc (suc (thrice r)))) ≡ ended (heldAfter r) r
+  pub ended_is : (r : ℕ) → r < iterations_in → after position_coding (line_after graded_model crew span position box (suc (suc (thrice r)))).grading (box (suc (suc (thrice r)))) ≡ ended (held_after r) r
   ended_is r h = ap (λ x. after position_coding (graded_model.after (graded_model.after x (box (thrice r))) (box (suc (thrice r)))).grading (box (suc (suc (thrice r))))) (base_left r h)
 
   -- the position held after r iterations
-  pub result_is : (r : ℕ) → r ≤ iterationsIn → graded_model.result (line_after graded_model crew span position box (thrice r)) ≡ number_of (heldAfter r).own
+  pub result_is : (r : ℕ) → r ≤ iterations_in → graded_model.result (line_after graded_model crew span position box (thrice r)) ≡ number_of (held_after r).own
   result_is r h = ap graded_model.result (at_base r h)
 
   -- the first position, and the next one, which is not cut
-  pub first_own : number_of (heldAfter 0).own ≡ position_in span position
-  unfolding heldAfter
+  pub first_own : number_of (held_after 0).own ≡ position_in span position
+  unfolding held_after
   first_own = omega arith
 
-  pub next_own : (r : ℕ) → number_of (heldAfter (suc r)).own ≡ averaged (position_near span) (ended (heldAfter r) r)
-  unfolding heldAfter
+  pub next_own : (r : ℕ) → number_of (held_after (suc r)).own ≡ averaged (position_near span) (ended (held_after r) r)
+  unfolding held_after
   next_own r =
-      let b = averaged_in (position_near span) (ended (heldAfter r) r) (omega arith) in
-      near_is (averaged (position_near span) (ended (heldAfter r) r)) b.0 (omega (arith, b.1))
+      let b = averaged_in (position_near span) (ended (held_after r) r) (omega arith) in
+      near_is (averaged (position_near span) (ended (held_after r) r)) b.0 (omega (arith, b.1))
 
   -- whom it distrusts
-  pub first_distrust : (s : ℕ) → s < 16 → slice_index_or (heldAfter 0).distrusted s false ≡ false
-  unfolding heldAfter
+  pub first_distrust : (s : ℕ) → s < 16 → slice_index_or (held_after 0).distrusted s false ≡ false
+  unfolding held_after
   first_distrust s h = get_or-replicate 16 s false false h
 
   pub next_distrust : (r s : ℕ) → s < 16
-      → slice_index_or (heldAfter (suc r)).distrusted s false ≡ (slice_index_or (heldAfter r).distrusted s false || not (sure (grade_at position_coding (ended (heldAfter r) r) s)))
-  unfolding heldAfter distrusted_after
-  next_distrust r s h = get_or-map-range_with_len (doubtful position_coding (ended (heldAfter r) r)) 0 16 s s false h (omega arith)
+      → slice_index_or (held_after (suc r)).distrusted s false ≡ (slice_index_or (held_after r).distrusted s false || not (sure (grade_at position_coding (ended (held_after r) r) s)))
+  unfolding held_after distrusted_after
+  next_distrust r s h = get_or-map-range_with_len (doubtful position_coding (ended (held_after r) r)) 0 16 s s false h (omega arith)

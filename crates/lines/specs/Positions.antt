@@ -1,10 +1,8 @@
 -- Positions that are held and sent.
-use Rattle.std.specs.Prelude.{◌≡◌, ℕ, ◌≤◌, List, Some}
-use Rattle.std.proofs.Common.{sym, ap, ◌∙◌, arith}
-use Rattle.slot.specs.Positions.{number_of, position_at, position_near, position_bytes, position_coding}
-use Rattle.slot.specs.Codings.{Lawful}
+use Rattle.std.specs.Prelude.{◌≡◌, ℕ, ◌≤◌, Some}
+use Rattle.std.proofs.Common.{arith}
+use Rattle.slot.specs.Positions.{number_of, position_near, position_bytes, position_coding}
 use Rattle.slot.specs.declared.position.Position.{Position}
-use Rattle.slot.specs.PositionsLemmas.{position_at_lem}
 use Rattle.slot.proofs.Laws.{position_lawful}
 use Rattle.wire.specs.Slots.{slot_from}
 use Rattle.wire.proofs.Slotted.{slotted-read}

@@ -1,6 +1,5 @@
 -- What the reading of a file says of the plan that it is read into.
-use Rattle.std.proofs.Common.{◌≡◌, ℕ, ◌⊎◌, ◌↔◌, List, Ok, Err, Result, sym, refl, ap, ◌∙◌, subst, arith}
-use Rattle.label.specs.declared.label.Label.{Label}
+use Rattle.std.proofs.Common.{◌≡◌, ℕ, List, Ok, Err, Result, refl, subst, arith}
 use Rattle.records.specs.declared.fault.PlanFault.{PlanFault}
 use Rattle.records.specs.Accepts.{Accepted, spots}
 use Rattle.records.specs.Files.{read_file}

@@ -201,7 +201,7 @@ module _ (file ps : List ℕ) (rs : Records) (w : Written file ps rs) where
 -- the file --------------------------------------------------------------------------------------
 
 pub read_good : (file : List ℕ) (rs : Records) → read_file file ≡ Ok rs → Accepted file rs
-read_good file rs e = in_blocks (sized (length file)) refl e
+read_good file rs e = by_size (sized (length file)) refl e
   where
     counts : (n : ℕ) → length file ≡ 512 * n → 1 ≤ n → n ≤ 34 → (ps : List ℕ) → Told file n 0 n [] ps → (a : Bool) → eqb (length ps) 0 ≡ a → (b : Bool) → ltb 1024 (length ps) ≡ b → cond (a || b) (Err Count) (records_from file ps [] []) ≡ Ok rs → Accepted file rs
     counts n whole some most ps told true ea b eb q = let z : ◌≡◌ {A = ℕ} 0 1 = cc in absurd (omega arith)
@@ -226,9 +226,9 @@ read_good file rs e = in_blocks (sized (length file)) refl e
     after n whole some most (Ok ps) f q = counts n whole some most ps (blocks_told file n 0 n [] ps f) (eqb (length ps) 0) refl (ltb 1024 (length ps)) refl q
     after n whole some most (Err x) f q = let z : ◌≡◌ {A = ℕ} 0 1 = cc in absurd (omega arith)
 
-    in_blocks : (o : Option ℕ) → sized (length file) ≡ o → in_blocks file o ≡ Ok rs → Accepted file rs
-    in_blocks None s q = let z : ◌≡◌ {A = ℕ} 0 1 = cc in absurd (omega arith)
-    in_blocks (Some n) s q = let z = sized_some (length file) n s in after n z.0 z.1 z.2 (blocks_from file n 0 n []) refl q
+    by_size : (o : Option ℕ) → sized (length file) ≡ o → in_blocks file o ≡ Ok rs → Accepted file rs
+    by_size None s q = let z : ◌≡◌ {A = ℕ} 0 1 = cc in absurd (omega arith)
+    by_size (Some n) s q = let z = sized_some (length file) n s in after n z.0 z.1 z.2 (blocks_from file n 0 n []) refl q
 
 pub good_read : (file : List ℕ) (rs : Records) → Accepted file rs → read_file file ≡ Ok rs
 good_read file rs a =

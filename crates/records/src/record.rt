@@ -25,7 +25,7 @@ pub struct Record {
 fn is_blank(bytes: &[u8]) -> bool
     ensures { result ≡ bytes_eq bytes.now eight_blanks }
 {
-    bytes == b"        "
+    bytes == b"        ".as_slice()
 }
 
 fn second_of(bytes: &[u8]) -> Second

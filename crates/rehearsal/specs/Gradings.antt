@@ -61,39 +61,39 @@ of_three x y z (suc (suc i)) = z
 -- it votes for v to units 0 and 2, and for nothing to unit 1.
 module _ {K : Type 0} (c : Coding K) (v w : K) where
   -- the honest units' own values are v, w and v, and they distrust nobody
-  abbrev pub storyStart : Start K
-  storyStart = record { crew = crew_of_four; own = of_three v w v; distrusted = λ i. replicate 16 false }
+  abbrev pub story_start : Start K
+  story_start = record { crew = crew_of_four; own = of_three v w v; distrusted = λ i. replicate 16 false }
 
-  abbrev pub storyOne : ℕ → Box
-  storyOne i = Some (frame_of c (starting storyStart 0)) ∷ Some (frame_of c (starting storyStart 1)) ∷ Some (frame_of c (starting storyStart 2))
+  abbrev pub story_one : ℕ → Box
+  story_one i = Some (frame_of c (starting story_start 0)) ∷ Some (frame_of c (starting story_start 1)) ∷ Some (frame_of c (starting story_start 2))
       ∷ Some (c.writes (of_three v v w i)) ∷ []
 
-  abbrev pub afterOne : ℕ → Grading K
-  afterOne i = after c (starting storyStart i) (storyOne i)
+  abbrev pub after_one : ℕ → Grading K
+  after_one i = after c (starting story_start i) (story_one i)
 
-  abbrev pub storyTwo : ℕ → Box
-  storyTwo i = Some (frame_of c (afterOne 0)) ∷ Some (frame_of c (afterOne 1)) ∷ Some (frame_of c (afterOne 2))
+  abbrev pub story_two : ℕ → Box
+  story_two i = Some (frame_of c (after_one 0)) ∷ Some (frame_of c (after_one 1)) ∷ Some (frame_of c (after_one 2))
       ∷ Some (slotted c (in_last (Some (of_three v w w i))) 4) ∷ []
 
-  abbrev pub afterTwo : ℕ → Grading K
-  afterTwo i = after c (afterOne i) (storyTwo i)
+  abbrev pub after_two : ℕ → Grading K
+  after_two i = after c (after_one i) (story_two i)
 
-  abbrev pub storyThree : ℕ → Box
-  storyThree i = Some (frame_of c (afterTwo 0)) ∷ Some (frame_of c (afterTwo 1)) ∷ Some (frame_of c (afterTwo 2))
+  abbrev pub story_three : ℕ → Box
+  story_three i = Some (frame_of c (after_two 0)) ∷ Some (frame_of c (after_two 1)) ∷ Some (frame_of c (after_two 2))
       ∷ Some (slotted c (in_last (of_three (Some v) None (Some v) i)) 4) ∷ []
 
-  abbrev pub storyBox : ℕ → ℕ → Box
-  storyBox i zero = storyOne i
-  storyBox i (suc zero) = storyTwo i
-  storyBox i (suc (suc k)) = storyThree i
+  abbrev pub story_box : ℕ → ℕ → Box
+  story_box i zero = story_one i
+  story_box i (suc zero) = story_two i
+  story_box i (suc (suc k)) = story_three i
 
   -- this is an exchange; two honest units were told different values; grades 1 and 0 stand side by side, and the honest
   -- units' own values have grade 2
   pub record TwoStories : Type 0 where
-    pub exchange : Exchange c 4 1 three_honest storyStart storyBox
-    pub toldFirst : heard_from c (storyBox 0 0) 3 ≡ Some v
-    pub toldLast : heard_from c (storyBox 2 0) 3 ≡ Some w
-    pub gradeOne : grade_held c storyStart storyBox 0 3 ≡ One v
-    pub gradeZero : grade_held c storyStart storyBox 1 3 ≡ Zero
-    pub gradeOneAgain : grade_held c storyStart storyBox 2 3 ≡ One v
-    pub honestTwo : grade_held c storyStart storyBox 0 1 ≡ Two w
+    pub exchange : Exchange c 4 1 three_honest story_start story_box
+    pub told_first : heard_from c (story_box 0 0) 3 ≡ Some v
+    pub told_last : heard_from c (story_box 2 0) 3 ≡ Some w
+    pub grade_one : grade_held c story_start story_box 0 3 ≡ One v
+    pub grade_zero : grade_held c story_start story_box 1 3 ≡ Zero
+    pub grade_one_again : grade_held c story_start story_box 2 3 ≡ One v
+    pub honest_two : grade_held c story_start story_box 0 1 ≡ Two w

@@ -102,17 +102,17 @@ module _ {n : ℕ} {up depth : ℕ → ℕ} (r : Rooted n up depth) where
   tours_go i tour (j ∷ js) a g =
       (inl a.0, goes_append n up j i i (tour j ++ i ∷ []) (flat_map (λ k. (k ∷ tour k) ++ i ∷ []) js) (goes_append n up j j i (tour j) (i ∷ []) (g j) (inr a.0, refl)) (tours_go i tour js a.1 g))
 
-  abbrev pub tourOf : ℕ → ℕ → List ℕ
-  tourOf zero i = []
-  tourOf (suc f) i = flat_map (λ j. walk_of n up f j ++ i ∷ []) (branches n up i)
+  abbrev pub tour_of : ℕ → ℕ → List ℕ
+  tour_of zero i = []
+  tour_of (suc f) i = flat_map (λ j. walk_of n up f j ++ i ∷ []) (branches n up i)
 
-  pub walk_tour : (f i : ℕ) → walk_of n up f i ≡ i ∷ tourOf f i
+  pub walk_tour : (f i : ℕ) → walk_of n up f i ≡ i ∷ tour_of f i
   walk_tour zero i = refl
   walk_tour (suc f) i = refl
 
-  pub tour_goes : (f i : ℕ) → Goes (LegAt n up) i (tourOf f i) i
+  pub tour_goes : (f i : ℕ) → Goes (LegAt n up) i (tour_of f i) i
   tour_goes zero i = refl
-  tour_goes (suc f) i = subst (λ (g : ℕ → List ℕ). Goes (LegAt n up) i (flat_map (λ j. g j ++ i ∷ []) (branches n up i)) i) (λ k j. sym (walk_tour f j) k) (tours_go i (tourOf f) (branches n up i) (branch_of i) (tour_goes f))
+  tour_goes (suc f) i = subst (λ (g : ℕ → List ℕ). Goes (LegAt n up) i (flat_map (λ j. g j ++ i ∷ []) (branches n up i)) i) (λ k j. sym (walk_tour f j) k) (tours_go i (tour_of f) (branches n up i) (branch_of i) (tour_goes f))
 
   -- the subtree of a station --------------------------------------------------------------------
 
@@ -175,4 +175,4 @@ module _ {n : ℕ} {up depth : ℕ → ℕ} (r : Rooted n up depth) where
   walk_legs f i k l =
       let e = walk_tour f i in
       let long = ap length e in
-      rw (add-one, e) (goes_at i i (tourOf f i) k (tour_goes f i) (omega arith))
+      rw (add-one, e) (goes_at i i (tour_of f i) k (tour_goes f i) (omega arith))

@@ -36,6 +36,6 @@ pub fn in_order(slots: &[Option<Position>], span: usize) -> [usize; 16]
     ensures { take (length slots.now) result ≡ sorted (map (entry_of span) slots.now) }
 {
     let mut list = entries(slots, span);
-    list[0..slots.len()].sort();
+    list[0..slots.len()].sort_unstable();
     list
 }

@@ -1,9 +1,9 @@
 -- Frames of n slots: what is written is read.
-use Rattle.std.proofs.Common.{◌≡◌, ℕ, zero, suc, ◌+◌, ◌-◌, ◌*◌, ◌<◌, ◌≤◌, ◌&&◌, eqb, ltb, List, [], ◌∷◌, ◌++◌, length, take, drop, Some, None, Option, sym, refl, ap, ◌∙◌, ⊎_elim, mul-le-mul_right, mul-le-mul_left, mul-suc, arith, length-append, length-drop, take_all, drop_at}
+use Rattle.std.proofs.Common.{◌≡◌, ℕ, zero, suc, ◌*◌, ◌<◌, ◌&&◌, eqb, ltb, ◌++◌, length, take, drop, Some, None, Option, sym, ap, ◌∙◌, ⊎_elim, mul-suc, arith, length-append, length-drop, take_all, drop_at}
 use lib.Seq.{drop-append-le, take-append-le}
 use Rattle.std.proofs.lemmas.Bool.{cases_lt, cond-true, eq-eqb, lt-ltb, and_from}
 use Rattle.slot.specs.Codings.{Coding, Lawful}
-use Rattle.wire.specs.Slots.{slot_of, slot_from, slot_bytes, slotted}
+use Rattle.wire.specs.Slots.{slot_of, slot_bytes, slotted}
 use Rattle.wire.proofs.Frames.{slot_ends}
 
 module _ {K : Type 0} (c : Coding K) (l : Lawful c) where

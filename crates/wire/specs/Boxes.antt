@@ -1,5 +1,5 @@
 -- What came in a round.
-use Rattle.std.specs.Prelude.{ℕ, List, Some, None, Option, slice_index_or}
+use Rattle.std.specs.Prelude.{ℕ, List, None, Option, slice_index_or}
 
 -- at each sender's place its frame, or nothing
 abbrev pub Box : Type 0

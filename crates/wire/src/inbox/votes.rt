@@ -1,5 +1,6 @@
 // Counting the frames that carry a value, and the value that enough of them carry.
 ghost use Rattle.std.specs.Prelude.{◌≡◌, not};
+ghost use Rattle.slot.specs.Codings.{coding_of};
 ghost use Rattle.wire.specs.Boxes.{from};
 ghost use Rattle.wire.specs.Frames.{box_of};
 ghost use Rattle.wire.specs.Slots.{slot_from, column, holds, count, kept, reaches, vote};
@@ -10,7 +11,7 @@ use slot::Kind;
 
 // Whether a slot holds the value.
 fn is_value<K: Kind>(slot: Option<K>, value: K) -> bool
-    ensures { result ≡ holds K.Kind.coding value slot }
+    ensures { result ≡ holds (coding_of K.wide K.reads K.writes K.blank) value slot }
 {
     match slot {
         Some(found) => found == value,
@@ -19,7 +20,7 @@ fn is_value<K: Kind>(slot: Option<K>, value: K) -> bool
 }
 
 fn tally_of<K: Kind>(inbox: &Inbox, units: usize, s: usize, value: K) -> usize
-    ensures { result ≡ count K.Kind.coding value (column K.Kind.coding units s (box_of inbox.now)) }
+    ensures { let k = coding_of K.wide K.reads K.writes K.blank in result ≡ count k value (column k units s (box_of inbox.now)) }
 {
     let mut n = 0;
     for sender in 0..units {
@@ -39,7 +40,7 @@ fn candidate<K: Kind>(
     quorum: usize,
     except: Option<K>,
 ) -> Option<K>
-    ensures { result ≡ kept (reaches K.Kind.coding quorum (column K.Kind.coding units s (box_of inbox.now)) except) (slot_from K.Kind.coding units s (from (box_of inbox.now) sender)) }
+    ensures { let k = coding_of K.wide K.reads K.writes K.blank in result ≡ kept (reaches k quorum (column k units s (box_of inbox.now)) except) (slot_from k units s (from (box_of inbox.now) sender)) }
 {
     match inbox.slot::<K>(sender, units, s) {
         Some(value) => {
@@ -58,8 +59,8 @@ fn vote_of<K: Kind>(
     quorum: usize,
     except: Option<K>,
 ) -> Option<K>
-    ensures value { result ≡ vote K.Kind.coding quorum except (column K.Kind.coding units s (box_of inbox.now)) }
-    ensures counted { Voted K.Kind.coding quorum except (column K.Kind.coding units s (box_of inbox.now)) result }
+    ensures value { let k = coding_of K.wide K.reads K.writes K.blank in result ≡ vote k quorum except (column k units s (box_of inbox.now)) }
+    ensures counted { let k = coding_of K.wide K.reads K.writes K.blank in Voted k quorum except (column k units s (box_of inbox.now)) result }
 {
     for sender in 0..units {
         let found = candidate(inbox, sender, units, s, quorum, except);
@@ -73,7 +74,7 @@ fn vote_of<K: Kind>(
 impl Inbox {
     // How many of the frames of the first `units` senders, of so many slots each, carry the value in slot `s`.
     pub fn tally<K: Kind>(&self, units: usize, s: usize, value: K) -> usize
-        ensures { result ≡ count K.Kind.coding value (column K.Kind.coding units s (box_of self.now)) }
+        ensures { let k = coding_of K.wide K.reads K.writes K.blank in result ≡ count k value (column k units s (box_of self.now)) }
     {
         tally_of(self, units, s, value)
     }
@@ -87,8 +88,8 @@ impl Inbox {
         quorum: usize,
         except: Option<K>,
     ) -> Option<K>
-        ensures value { result ≡ vote K.Kind.coding quorum except (column K.Kind.coding units s (box_of self.now)) }
-        ensures counted { Voted K.Kind.coding quorum except (column K.Kind.coding units s (box_of self.now)) result }
+        ensures value { let k = coding_of K.wide K.reads K.writes K.blank in result ≡ vote k quorum except (column k units s (box_of self.now)) }
+        ensures counted { let k = coding_of K.wide K.reads K.writes K.blank in Voted k quorum except (column k units s (box_of self.now)) result }
     {
         vote_of(self, units, s, quorum, except)
     }

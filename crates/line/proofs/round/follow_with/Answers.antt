@@ -1,5 +1,4 @@
-use Rattle.std.proofs.Common.{◌≡◌, ◌≤◌, length, set, Some, sym, ap, ◌∙◌, arith}
-use Rattle.wire.specs.Boxes.{Box}
+use Rattle.std.proofs.Common.{◌≡◌, set, Some, ap, ◌∙◌}
 use Rattle.wire.specs.Frames.{box_of, framed}
 use Rattle.wire.proofs.Frames.{framed_short}
 use Rattle.wire.proofs.Runs.{played}

@@ -6,7 +6,7 @@ use Rattle.records.proofs.file.judge_blocks.Goals as goal
 
 pub returns-in_err-records : goal.returns-in_err-records
 returns-in_err-records c =
-    let p = err_from_is_err_and c.from-residual.result c.from-residual.ensures.1 in
+    let p = err_from_is_err_and c.from_residual.result c.from_residual.ensures.1 in
     rw (p.1, p.2) (blocks_fault c.args.file.now c.args.count c.loop-b.b c.loop-b-test.true (take c.loop-b.total c.loop-b.places) _ c.in_err-records.ensures ∙ c.loop-b.invariant.0)
 
 pub loop-b-preserved : goal.loop-b-preserved

@@ -13,7 +13,7 @@ read_record-requires c =
 
 pub returns-in_err-record : goal.returns-in_err-record
 returns-in_err-record c =
-    let p = err_from_is_err_and c.from-residual.result c.from-residual.ensures.1 in
+    let p = err_from_is_err_and c.from_residual.result c.from_residual.ensures.1 in
     rw (p.1, p.2) (records_stop c.args.file.now c.args.places.now c.loop-k.labels c.loop-k.joined c.loop-k.k c.loop-k-test.true _ c.in_err-record.ensures ∙ c.loop-k.invariant.0)
 
 pub loop-k-preserved : goal.loop-k-preserved

@@ -1,4 +1,4 @@
-use Rattle.std.proofs.Common.{◌≡◌, ℕ, ◌≤◌, None, sym, ap, ◌∙◌, arith}
+use Rattle.std.proofs.Common.{ℕ, None, ap, ◌∙◌, arith}
 use Rattle.slot.specs.Positions.{position_coding}
 use Rattle.wire.proofs.Fills.{filled_more, filled_front}
 use Rattle.wire.specs.declared.crew.Crew.{Crew}

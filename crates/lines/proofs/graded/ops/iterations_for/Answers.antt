@@ -6,5 +6,5 @@ use Rattle.lines.proofs.graded.ops.iterations_for.Goals as goal
 
 pub returns : goal.returns
 returns c =
-    let e : c.graded_iterations_lem.result ≡ graded_iterations c.args.crew.n c.args.crew.t (number_of c.args.span) = search rules in
+    let e : c.graded_iterations.result ≡ graded_iterations c.args.crew.n c.args.crew.t (number_of c.args.span) = search rules in
     record { value = e; converges = converges }

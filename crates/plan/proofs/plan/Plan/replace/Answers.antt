@@ -1,4 +1,4 @@
-use Rattle.std.proofs.Common.{length, take, arith, length-take}
+use Rattle.std.proofs.Common.{take, arith, length-take}
 use Rattle.records.proofs.Facts.{read_sound}
 use Rattle.plan.proofs.plan.Plan.replace.Goals as goal
 

@@ -1,4 +1,4 @@
-use Rattle.std.proofs.Common.{◌≡◌, length, take, replicate, sym, ap, ◌∙◌, arith}
+use Rattle.std.proofs.Common.{length, take, replicate, sym, ap, ◌∙◌}
 use Rattle.wire.proofs.Frames.{laid_front, framed_short, framed_long}
 use Rattle.wire.proofs.frame.ops.frame_of.Goals as goal
 

@@ -1,4 +1,4 @@
-use Rattle.std.proofs.Common.{◌≡◌, length, set, Some, sym, ap, ◌∙◌, arith}
+use Rattle.std.proofs.Common.{set, Some, sym, ap, ◌∙◌, arith}
 use Rattle.std.proofs.lemmas.List.{map-set, set_past, length-map}
 use Rattle.wire.specs.Frames.{sent, box_of, framed}
 use Rattle.wire.proofs.inbox.ops.put_at.Goals as goal

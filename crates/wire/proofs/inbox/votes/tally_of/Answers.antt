@@ -1,4 +1,5 @@
-use Rattle.std.proofs.Common.{◌≡◌, ℕ, ◌+◌, Option, sym, ap, ◌∙◌, arith, rules}
+use Rattle.std.proofs.Common.{◌≡◌, ℕ, sym, ap, ◌∙◌, arith}
+use Rattle.slot.proofs.Laws.{coding}
 use Rattle.wire.specs.Boxes.{from}
 use Rattle.wire.specs.Frames.{box_of}
 use Rattle.wire.specs.Slots.{holds, slot_from}
@@ -9,7 +10,7 @@ use Rattle.wire.proofs.inbox.votes.tally_of.Goals.{then-is_value, else-is_value}
 
 pub loop-sender-preserved : goal.loop-sender-preserved
 loop-sender-preserved g c =
-    let k = g.K.Kind.coding in
+    let k = coding g.K.Kind in
     let f = λ (i : ℕ). slot_from k c.args.units c.args.s (from (box_of c.args.inbox.now) i) in
     let i = c.loop-sender.sender in
     let more = count_more (holds k c.args.value) f i in
