@@ -2,7 +2,7 @@
 # Counts the instructions that reading a plan file, and the walk of the plan,
 # take, for plans of 64, 256 and 1,024 stations.
 #
-# usage: tools/bench.sh [PROGRAM]        (default: target/bin/tosraek)
+# usage: tools/bench.sh [PROGRAM]        (default: what ./run builds, crates/tosraek/out/tosraek)
 #
 # `read` and `read+walk` are the counts of a script that reads the plan, or reads
 # it and asks for its walk, less that of a script with `newplan` alone: they have
@@ -12,7 +12,7 @@
 set -euo pipefail
 
 here=$(cd "$(dirname "$0")" && pwd)
-program=${1:-$here/../target/bin/tosraek}
+program=${1:-$here/../crates/tosraek/out/tosraek}
 work=$(mktemp -d)
 trap 'rm -rf "$work"' EXIT
 

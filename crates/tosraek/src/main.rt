@@ -16,6 +16,8 @@ mod writer;
 
 use args::{Job, chosen_job};
 use failure::Failure;
+use std::io;
+use std::process::ExitCode;
 
 fn run(rt: &HostRuntime) -> Result<(), Failure> {
     match chosen_job(rt)? {
@@ -29,10 +31,12 @@ fn run(rt: &HostRuntime) -> Result<(), Failure> {
     }
 }
 
-fn main(rt: HostRuntime) -> Result<(), Failure> {
-    let result = run(&rt);
-    if let Err(failure) = &result {
-        eprintln!(rt; "tosraek: {failure}")?;
+fn main(rt: HostRuntime) -> io::Result<ExitCode> {
+    match run(&rt) {
+        Ok(()) => Ok(ExitCode::SUCCESS),
+        Err(failure) => {
+            eprintln!(rt; "tosraek: {failure}")?;
+            Ok(ExitCode::FAILURE)
+        }
     }
-    result
 }
