@@ -206,6 +206,8 @@ class Line:
 def line_answer(lines, line):
     words = line.split(" ")
     if words[0] == "newline":
+        if len(words) < 8:
+            return "error: the command needs more words"
         name, kind = words[1], words[2]
         numbers = [number(w) for w in words[3:8]]
         if kind not in ("halving", "graded"):
