@@ -1,4 +1,4 @@
-// Worked examples as one proved table, and tests that run them through the public calls.
+// Worked examples as two proved tables, and tests that run them through the public calls.
 #![tactic(auto)]
 
 ghost use Rattle.std.specs.Prelude.{◌≡◌, length};
