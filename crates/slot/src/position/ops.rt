@@ -1,5 +1,5 @@
 // Making a position, and its number.
-ghost use Rattle.std.specs.Prelude.{◌≡◌};
+ghost use Rattle.std.specs.Prelude.{◌≡◌, ◌≤◌};
 ghost use Rattle.slot.specs.Positions.{position_at, position_near, number_of};
 
 use super::Position;
@@ -12,15 +12,24 @@ fn near(number: usize) -> Position
     }
 }
 
+// The position with a number in the range.
+fn kept(number: usize) -> Option<Position>
+    requires low { 1 ≤ number }
+    requires high { number ≤ 2047 }
+    ensures { result ≡ position_at number }
+{
+    Some(Position {
+        value: number as u16,
+    })
+}
+
 impl Position {
     // The position with this number, if there is one.
     pub fn new(number: usize) -> Option<Position>
         ensures { result ≡ position_at number }
     {
         if number >= 1 && number <= 2047 {
-            Some(Position {
-                value: number as u16,
-            })
+            kept(number)
         } else {
             None
         }
