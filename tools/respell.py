@@ -17,21 +17,13 @@ TOKEN = re.compile(NAME)
 LIBRARY = {"length", "append", "take", "drop", "map", "sum", "reverse", "get_or", "push"}
 
 
-def antt_files(top):
+def files_of(top, ending):
+    """The files of the crates whose names end so, in a fixed order within a folder; what a check made is left out."""
     for folder, _, names in os.walk(os.path.join(top, "crates")):
         if "/out" in folder:
             continue
         for name in sorted(names):
-            if name.endswith(".antt"):
-                yield os.path.join(folder, name)
-
-
-def rust_files(top):
-    for folder, _, names in os.walk(os.path.join(top, "crates")):
-        if "/out" in folder:
-            continue
-        for name in sorted(names):
-            if name.endswith(".rt"):
+            if name.endswith(ending):
                 yield os.path.join(folder, name)
 
 
@@ -47,7 +39,7 @@ def snake(name):
 def collected(top):
     """The names that the repository defines: (definitions of specs/, lemmas, fields)."""
     definitions, lemmas, fields = set(), set(), set()
-    for path in antt_files(top):
+    for path in files_of(top, ".antt"):
         in_specs = "/specs/" in path and not path.endswith("Lemmas.antt")
         inside = None
         for line in open(path, encoding="utf-8"):
@@ -125,7 +117,7 @@ def main():
                 print(f"together: {new} from {olds}" + (" and itself" if new in kept else ""))
         return
     changed = 0
-    for path in list(antt_files(top)) + list(rust_files(top)):
+    for path in list(files_of(top, ".antt")) + list(files_of(top, ".rt")):
         text = open(path, encoding="utf-8").read()
         new = TOKEN.sub(lambda found: names.get(found.group(0), found.group(0)), text)
         if new != text:
