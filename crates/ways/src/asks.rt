@@ -35,7 +35,10 @@ impl Cave<'_> {
     pub fn height(&self) -> usize
         ensures { Height self.now.stations.now result }
     {
-        let depths = self.stations.iter().map(|station| usize::from(station.depth));
+        let depths = self
+            .stations
+            .iter()
+            .map(|station| usize::from(station.depth));
         depths.max().unwrap_or(0)
     }
 

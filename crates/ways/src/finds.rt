@@ -10,7 +10,9 @@ impl Cave<'_> {
     pub(crate) fn find(&self, label: Label) -> Option<usize>
         ensures { Found self.now.stations.now label result }
     {
-        let found = self.stations.binary_search_by_key(&label.key(), |station| station.label.key());
+        let found = self
+            .stations
+            .binary_search_by_key(&label.key(), |station| station.label.key());
         found.ok()
     }
 

@@ -1,5 +1,5 @@
 // Labels listed one after the other, at most N of them, without a heap.
-ghost use Rattle.std.specs.Prelude.{◌≡◌, ◌<◌, ◌≤◌, List, [], ◌∷◌, ◌++◌, length, take, drop};
+ghost use Rattle.std.specs.Prelude.{◌≡◌, ◌<◌, ◌≤◌, List, [], ◌∷◌, ◌++◌, length, take, drop, slice_get};
 ghost use Rattle.label.specs.declared.label.Label.{Label};
 
 use label::Label;
@@ -43,6 +43,12 @@ impl<const N: usize> Listing<N> {
         ensures { result.now ≡ self.now }
     {
         &self.labels[..self.len]
+    }
+
+    pub(crate) fn get(&self, k: usize) -> Option<Label>
+        ensures { result ≡ slice_get self.now k }
+    {
+        self.as_slice().get(k).copied()
     }
 
     // Writes the list to the front of a buffer, and gives its length; what stands behind it is kept.

@@ -32,10 +32,7 @@ impl Cave<'_> {
         ensures { result ≡ entry_at self.now.stations.now place }
     {
         let walk = self.whole_walk();
-        if place == 0 || place > walk.as_slice().len() {
-            self.root()
-        } else {
-            walk.as_slice()[place - 1]
-        }
+        let entry = place.checked_sub(1).and_then(|k| walk.get(k));
+        entry.unwrap_or(self.root())
     }
 }
