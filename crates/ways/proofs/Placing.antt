@@ -1,44 +1,73 @@
--- The walk in a buffer, by indices, and what its entries and places say of labels.
-use Rattle.std.proofs.Common.{◌≡◌, ℕ, ◌-◌, ◌<◌, ◌≤◌, ◌⊎◌, List, length, get_or, take, Option, unwrap_or, sym, ap, ◌∙◌, subst, ⊎_elim, arith}
-use Rattle.std.proofs.lemmas.List.{get_or-take, get_or-map, get_or_past}
+-- What entries and places of the walk say of labels.
+use Rattle.std.proofs.Common.{◌≡◌, ℕ, zero, suc, ◌+◌, ◌-◌, ◌<◌, ◌≤◌, List, [], ◌∷◌, length, get_or, Some, None, Option, MatchOption, unwrap_or, slice_get, sym, refl, ap, ◌∙◌, subst, ⊎_elim, arith}
+use Rattle.std.specs.Option.{SomeIff}
+use Rattle.std.specs.List.{HoldsAt, AllWithin}
+use Rattle.std.proofs.lemmas.Option.{unwrap_or-slice_get}
 use Rattle.label.specs.declared.label.Label.{Label}
+use Rattle.label.specs.Labels.{zero_label}
 use Rattle.tree.specs.declared.Station.{Station}
-use Rattle.tree.specs.Stations.{Canonical, station_label}
-use Rattle.tree.specs.Caves.{root_label}
-use Rattle.tree.specs.Index.{Found}
-use Rattle.tree.specs.Walks.{walk_from, walk_labels, first_place}
+use Rattle.tree.specs.Stations.{Canonical}
+use Rattle.tree.specs.Caves.{Holds, root_label}
+use Rattle.tree.specs.Ways.{On}
+use Rattle.tree.specs.Walks.{walk_labels}
+use Rattle.tree.specs.WalkLaws.{FirstPlace}
 use Rattle.tree.proofs.Turns.{walk_step}
-use Rattle.tree.proofs.Walking.{entry_inside, labels_long}
-use Rattle.ways.specs.Calls.{Placed, entry_at}
-use Rattle.ways.proofs.Answering.{told_place}
+use Rattle.tree.proofs.Walking.{walk_laws}
+use Rattle.ways.specs.Calls.{CountsAs, Placed, entry_at}
 
--- the front of the buffer, as a part of it is written in code
-pub front_is : (out ws : List ℕ) (n : ℕ) → take n out ≡ ws → take (n - 0) out ≡ ws
-front_is out ws n e = let z : n - 0 ≡ n = omega arith in ap (λ (k : ℕ). take k out) z ∙ e
+-- what stands in a list has an index there
+on_index : {X : Type 0} (a d : X) (xs : List X) → On a xs → (k : ℕ) × ((k < length xs) × (get_or xs k d ≡ a))
+on_index a d [] o = absurd o
+on_index a d (x ∷ xs) o =
+    ⊎_elim
+    (λ (e : x ≡ a). (0, (omega arith, e)))
+    (λ (t : On a xs). let i = on_index a d xs t in (suc i.0, (omega (arith, i.1.0), i.1.1)))
+    o
 
 module _ (ps : List Station) (h : Canonical ps) where
-  pub walk_inside : (xs : List ℕ) → xs ≡ walk_from ps 0 → (k : ℕ) → k < length xs → get_or xs k 0 < length ps
-  walk_inside xs e k l = subst (λ (ys : List ℕ). k < length ys → get_or ys k 0 < length ps) (sym e) (entry_inside ps h k) l
+  pub walk_begins : (0 < length (walk_labels ps)) × ((d : Label) → get_or (walk_labels ps) 0 d ≡ root_label ps)
+  walk_begins = rw (walk_step ps h 0 h.some) (omega arith, λ d. refl)
 
-  module _ (out : List ℕ) (n place : ℕ) (long : n ≡ length (walk_from ps 0)) (written : take n out ≡ walk_from ps 0) where
-    pub entry_read : (place ≡ 0 → ⊥) × (place ≤ n) → get_or out (place - 1) 0 ≡ get_or (walk_from ps 0) (place - 1) 0
-    entry_read b = sym (get_or-take n out (place - 1) 0 (omega arith)) ∙ ap (λ (ys : List ℕ). get_or ys (place - 1) 0) written
+  pub place_told : (a : Label) (o : Option ℕ) (r : ℕ)
+      → MatchOption o (AllWithin (λ l. l ≡ a → ⊥) (walk_labels ps) 0 (length (walk_labels ps))) (λ i. (i < length (walk_labels ps)) × HoldsAt (λ l. l ≡ a) (walk_labels ps) i × AllWithin (λ l. l ≡ a → ⊥) (walk_labels ps) 0 i)
+      → MatchOption o (r ≡ 1) (λ i. r ≡ i + 1) → Placed ps a r
+  place_told a (Some i) r found is =
+      record {
+        first = λ b counts.
+            let here : get_or (walk_labels ps) i zero_label ≡ a = found.1 zero_label in
+            let same : b ≡ a =
+            ⊎_elim
+            (λ (k : Holds ps a × (b ≡ a)). k.1)
+            (λ (k : (Holds ps a → ⊥) × (b ≡ root_label ps)). absurd (k.0 (subst (Holds ps) here ((walk_laws ps h).only i found.0))))
+            counts in
+            let at : r - 1 ≡ i = omega arith in
+            record {
+              some = omega arith;
+              most = omega (arith, found.0);
+              here = ap (λ (k : ℕ). get_or (walk_labels ps) k zero_label) at ∙ here ∙ sym same;
+              first = λ k lt e. found.2 k zero_label (omega arith) (omega arith) (e ∙ same);
+            };
+      }
+  place_told a None r none is =
+      record {
+        first = λ b counts.
+            let root : b ≡ root_label ps =
+            ⊎_elim
+            (λ (k : Holds ps a × (b ≡ a)). let i = on_index a zero_label (walk_labels ps) ((walk_laws ps h).all a k.0) in absurd (none i.0 zero_label (omega arith) i.1.0 i.1.1))
+            (λ (k : (Holds ps a → ⊥) × (b ≡ root_label ps)). k.1)
+            counts in
+            let at : r - 1 ≡ 0 = omega arith in
+            record {
+              some = omega arith;
+              most = omega (arith, walk_begins.0);
+              here = ap (λ (k : ℕ). get_or (walk_labels ps) k zero_label) at ∙ walk_begins.1 zero_label ∙ sym root;
+              first = λ k lt e. absurd (omega arith);
+            };
+      }
 
-    pub entry_in : (place ≡ 0 → ⊥) × (place ≤ n) → get_or out (place - 1) 0 < length ps
-    entry_in b = omega (arith, entry_read b, entry_inside ps h (place - 1) (omega arith))
-
-    pub entry-there : (l : Label) → (place ≡ 0 → ⊥) × (place ≤ n) → l ≡ station_label ps (get_or out (place - 1) 0) → l ≡ entry_at ps place
-    entry-there l b e = e ∙ ap (station_label ps) (entry_read b) ∙ sym (get_or-map (station_label ps) (walk_from ps 0) (place - 1) 0 (root_label ps) (omega arith))
-
-    pub entry_past : (l : Label) → (place ≡ 0) ⊎ ((place ≡ 0 → ⊥) × (n < place)) → l ≡ station_label ps 0 → l ≡ entry_at ps place
-    entry_past l b e =
-        e ∙ ⊎_elim
-        (λ (z : place ≡ 0).
-        let first : get_or (walk_from ps 0) 0 0 ≡ 0 = ap (λ (ys : List ℕ). get_or ys 0 0) (walk_step ps h 0 h.some) in
-        sym (ap (λ (k : ℕ). get_or (walk_labels ps) (k - 1) (root_label ps)) z ∙ get_or-map (station_label ps) (walk_from ps 0) 0 0 (root_label ps) (omega (arith, ap length (walk_step ps h 0 h.some))) ∙ ap (station_label ps) first))
-        (λ (p : (place ≡ 0 → ⊥) × (n < place)). sym (get_or_past (walk_labels ps) (place - 1) (root_label ps) (omega (arith, labels_long ps h))))
-        b
-
-  pub place_told : (a : Label) (o : Option ℕ) (i r : ℕ) (xs : List ℕ) → Found ps a o → i ≡ unwrap_or o 0 → xs ≡ walk_from ps 0 → r ≡ first_place i xs → Placed ps a r
-  place_told a o i r xs f e w p =
-      record { first = told_place ps h a o i r f (λ j q. e ∙ ap (λ (z : Option ℕ). unwrap_or z 0) q) (λ q. e ∙ ap (λ (z : Option ℕ). unwrap_or z 0) q) (p ∙ ap (first_place i) w) }
+  pub entry_told : (place : ℕ) (i : Option ℕ) (o : Option Label) (l root : Label) → SomeIff i (1 ≤ place) (place - 1) → MatchOption i (o ≡ None) (λ k. o ≡ slice_get (walk_labels ps) k) → root ≡ root_label ps → l ≡ unwrap_or o root → l ≡ entry_at ps place
+  entry_told place (Some k) o l root before got is e =
+      e ∙ ap (λ (q : Option Label). unwrap_or q root) got ∙ unwrap_or-slice_get (walk_labels ps) k root ∙ ap (λ (j : ℕ). get_or (walk_labels ps) j root) before.1 ∙ ap (get_or (walk_labels ps) (place - 1)) is
+  entry_told place None o l root before got is e =
+      let z : place - 1 ≡ 0 = omega (arith, before) in
+      e ∙ ap (λ (q : Option Label). unwrap_or q root) got ∙ is ∙ sym (ap (λ (j : ℕ). get_or (walk_labels ps) j (root_label ps)) z ∙ walk_begins.1 (root_label ps))

@@ -1,97 +1,85 @@
 // What can be asked of stations by their labels.
-ghost use Rattle.std.specs.Prelude.{◌≡◌, length, Decides};
-ghost use Rattle.tree.specs.Stations.{Canonical};
+ghost use Rattle.std.specs.Prelude.{◌≡◌, Decides};
 ghost use Rattle.tree.specs.Caves.{Holds, root_label, Root, Above, Height, OneWay};
 ghost use Rattle.ways.specs.Calls.{DepthTold, DeepestTold, AtDepthTold, WayTold};
 
-use crate::climbs::{deepest_station, meeting_point, station_at};
-use crate::courses::write_course;
-use crate::finds::{find, find_both};
-use crate::reads::{depth_of, label_of};
+use crate::cave::Cave;
+use crate::listing::Listing;
 use label::Label;
-use tree::Station;
 
-// Whether there is a station with this label.
-pub fn has(ps: &[Station], label: Label) -> bool
-    requires lawful { Canonical ps.now }
-    ensures { Decides result (Holds ps.now label) }
-{
-    find(ps, label).is_some()
-}
-
-// The station with the lowest label.
-pub fn root(ps: &[Station]) -> Label
-    requires lawful { Canonical ps.now }
-    ensures value { result ≡ root_label ps.now }
-    ensures lowest { Root ps.now result }
-{
-    label_of(ps, 0)
-}
-
-// How many stations are on the way from the root to this one.
-pub fn depth(ps: &[Station], label: Label) -> Option<usize>
-    requires lawful { Canonical ps.now }
-    ensures { DepthTold ps.now label result }
-{
-    match find(ps, label) {
-        Some(at) => Some(depth_of(ps, at) as usize),
-        None => None,
+impl Cave<'_> {
+    // Whether there is a station with this label.
+    pub fn has(&self, label: Label) -> bool
+        ensures { Decides result (Holds self.now.stations.now label) }
+    {
+        self.find(label).is_some()
     }
-}
 
-// The greatest depth.
-pub fn height(ps: &[Station]) -> usize
-    requires lawful { Canonical ps.now }
-    ensures { Height ps.now result }
-{
-    depth_of(ps, deepest_station(ps)) as usize
-}
-
-// Whether `upper` lies on the way from the root to `lower`.
-pub fn is_above(ps: &[Station], upper: Label, lower: Label) -> bool
-    requires lawful { Canonical ps.now }
-    ensures { Decides result (Above ps.now upper lower) }
-{
-    match find_both(ps, upper, lower) {
-        Some((u, v)) => station_at(ps, v, depth_of(ps, u) as usize) == u,
-        None => false,
+    // The station with the lowest label.
+    pub fn root(&self) -> Label
+        ensures value { result ≡ root_label self.now.stations.now }
+        ensures lowest { Root self.now.stations.now result }
+    {
+        self.label_of(0)
     }
-}
 
-// The deepest station above both.
-pub fn deepest_above(ps: &[Station], a: Label, b: Label) -> Option<Label>
-    requires lawful { Canonical ps.now }
-    ensures { DeepestTold ps.now a b result }
-{
-    match find_both(ps, a, b) {
-        Some((u, v)) => Some(label_of(ps, meeting_point(ps, u, v))),
-        None => None,
+    // How many stations are on the way from the root to this one.
+    pub fn depth(&self, label: Label) -> Option<usize>
+        ensures { DepthTold self.now.stations.now label result }
+    {
+        let at = self.find(label)?;
+        Some(self.depth_of(at))
     }
-}
 
-// The station at this depth on the way from the root to a station, or that station itself where the way is shorter.
-pub fn at_depth(ps: &[Station], label: Label, level: usize) -> Option<Label>
-    requires lawful { Canonical ps.now }
-    ensures { AtDepthTold ps.now label level result }
-{
-    if level == 0 {
-        return None;
+    // The greatest depth.
+    pub fn height(&self) -> usize
+        ensures { Height self.now.stations.now result }
+    {
+        let depths = self
+            .stations
+            .iter()
+            .map(|station| usize::from(station.depth));
+        depths.max().unwrap_or(0)
     }
-    match find(ps, label) {
-        Some(v) => Some(label_of(ps, station_at(ps, v, level))),
-        None => None,
-    }
-}
 
-// Writes the stations on the way between two, from the first to the second, and gives their count; what stands behind
-// them in the buffer is kept.
-pub fn way(ps: &[Station], from: Label, to: Label, out: &mut [Label; 1024]) -> Option<usize>
-    requires lawful { Canonical ps.now }
-    ensures written { WayTold ps.now from to out.old out.new result }
-    ensures only { OneWay }
-{
-    match find_both(ps, from, to) {
-        Some((u, v)) => Some(write_course(ps, u, v, out)),
-        None => None,
+    // Whether `upper` lies on the way from the root to `lower`.
+    pub fn is_above(&self, upper: Label, lower: Label) -> bool
+        ensures { Decides result (Above self.now.stations.now upper lower) }
+    {
+        let Some((u, v)) = self.find_both(upper, lower) else {
+            return false;
+        };
+        self.station_at(v, self.depth_of(u)) == u
+    }
+
+    // The deepest station above both.
+    pub fn deepest_above(&self, a: Label, b: Label) -> Option<Label>
+        ensures { DeepestTold self.now.stations.now a b result }
+    {
+        let (u, v) = self.find_both(a, b)?;
+        Some(self.label_of(self.meeting_point(u, v)))
+    }
+
+    // The station at this depth on the way from the root to a station, or that station itself where the way is shorter.
+    pub fn at_depth(&self, label: Label, level: usize) -> Option<Label>
+        ensures { AtDepthTold self.now.stations.now label level result }
+    {
+        if level == 0 {
+            return None;
+        }
+        let v = self.find(label)?;
+        Some(self.label_of(self.station_at(v, level)))
+    }
+
+    // Writes the stations on the way between two, from the first to the second, and gives their count; what stands
+    // behind them in the buffer is kept.
+    pub fn way(&self, from: Label, to: Label, out: &mut [Label; 1024]) -> Option<usize>
+        ensures written { WayTold self.now.stations.now from to out.old out.new result }
+        ensures only { OneWay }
+    {
+        let (u, v) = self.find_both(from, to)?;
+        let mut course = Listing::new(from);
+        self.list_course(u, v, &mut course);
+        Some(course.write_to(out))
     }
 }

@@ -1,43 +1,27 @@
 // Finding a label.
-ghost use Rattle.std.specs.Prelude.{◌≡◌, ◌≤◌, length};
-ghost use Rattle.tree.specs.Index.{index_of, Found};
+ghost use Rattle.tree.specs.Index.{Found};
 ghost use Rattle.ways.specs.Calls.{BothFound};
 
-use crate::reads::label_of;
+use crate::cave::Cave;
 use label::Label;
-use tree::Station;
 
-// The index of the station with this label, if there is one.
-pub(crate) fn find(ps: &[Station], label: Label) -> Option<u16>
-    requires few { length ps.now ≤ 1024 }
-    ensures value { result ≡ index_of ps.now label }
-    ensures says { Found ps.now label result }
-{
-    search(ps, label)
-}
-
-// The indices of two stations, if both are there.
-pub(crate) fn find_both(ps: &[Station], a: Label, b: Label) -> Option<(u16, u16)>
-    requires few { length ps.now ≤ 1024 }
-    ensures { BothFound ps.now a b result }
-{
-    match find(ps, a) {
-        Some(u) => match find(ps, b) {
-            Some(v) => Some((u, v)),
-            None => None,
-        },
-        None => None,
+impl Cave<'_> {
+    // The index of the station with this label, if there is one.
+    pub(crate) fn find(&self, label: Label) -> Option<usize>
+        ensures { Found self.now.stations.now label result }
+    {
+        let found = self
+            .stations
+            .binary_search_by_key(&label.key(), |station| station.label.key());
+        found.ok()
     }
-}
 
-fn search(ps: &[Station], label: Label) -> Option<u16>
-    requires few { length ps.now ≤ 1024 }
-    ensures { result ≡ index_of ps.now label }
-{
-    for k in 0..ps.len() {
-        if label_of(ps, k as u16).key() == label.key() {
-            return Some(k as u16);
-        }
+    // The indices of two stations, if both are there.
+    pub(crate) fn find_both(&self, a: Label, b: Label) -> Option<(usize, usize)>
+        ensures { BothFound self.now.stations.now a b result }
+    {
+        let u = self.find(a)?;
+        let v = self.find(b)?;
+        Some((u, v))
     }
-    None
 }

@@ -2,12 +2,12 @@
 #![tactic(auto)]
 
 mod asks;
+mod cave;
 mod climbs;
 mod courses;
 mod finds;
+mod listing;
 mod places;
-mod reads;
 mod walks;
 
-pub use asks::{at_depth, deepest_above, depth, has, height, is_above, root, way};
-pub use places::{entry, first_place, walk};
+pub use cave::Cave;

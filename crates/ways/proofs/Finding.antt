@@ -1,0 +1,35 @@
+-- What a binary search by keys finds among the stations of a plan.
+use Rattle.std.proofs.Common.{◌≡◌, ℕ, ◌<◌, ◌≤◌, List, length, ◌⊎◌, ⊎_elim, ap, get_or, Some, None, Option, Result, Ok, Err, sym, subst, arith}
+use Rattle.std.specs.List.Sorted.{IsSearchInRange, IsBinarySearchResult, IsNonDecreasingBy}
+use Rattle.std.specs.Ordering.{nat_cmp, ordering_index}
+use Rattle.std.specs.Result.{result_ok}
+use Rattle.std.proofs.lemmas.Cmp.{ranked}
+use Rattle.std.proofs.lemmas.List.Sorted.{IsNonDecreasingBy-from_default}
+use Rattle.std.proofs.lemmas.Bool.{cases_lt}
+use Rattle.std.proofs.lemmas.Bool.Decides.{nat_tests}
+use Rattle.label.specs.declared.label.Label.{Label}
+use Rattle.label.specs.Orders.{key_of}
+use Rattle.label.proofs.Keys.{same_key}
+use Rattle.tree.specs.declared.Station.{Station}
+use Rattle.tree.specs.Stations.{nowhere, station_label, Ascending}
+use Rattle.tree.specs.Index.{Found}
+
+module _ (ps : List Station) (ascending : Ascending ps) (a : Label) where
+  -- the comparisons with a's key rise along the list
+  rising : IsNonDecreasingBy (λ s. ordering_index (nat_cmp (key_of s.label) (key_of a))) ps
+  rising = IsNonDecreasingBy-from_default (λ s. ordering_index (nat_cmp (key_of s.label) (key_of a))) ps nowhere (λ i j le l.
+      let keys : key_of (station_label ps i) ≤ key_of (station_label ps j) = grind (arith, ascending i j, λ (same : i ≡ j). ap (λ (k : ℕ). key_of (station_label ps k)) same) in
+      grind (arith, nat_tests))
+
+  pub found_by_search : (r : Result ℕ ℕ) (o : Option ℕ) → IsSearchInRange r (length ps) → IsBinarySearchResult (λ s. nat_cmp (key_of s.label) (key_of a)) ps r → o ≡ result_ok r → Found ps a o
+  found_by_search (Ok i) o l e is =
+      subst (Found ps a) (sym is) (l, same_key (station_label ps i) a (ranked _ _ _ (sym (e nowhere))))
+  found_by_search (Err i) o l e is =
+      subst (Found ps a) (sym is) (λ (k, f). apart k f.0 (ap key_of f.1) (cases_lt k i))
+    where
+      apart : (k : ℕ) → k < length ps → key_of (station_label ps k) ≡ key_of a → (k < i) ⊎ (i ≤ k) → ⊥
+      apart k lk same side =
+          ⊎_elim
+          (λ (lt : k < i). let less : key_of (station_label ps k) < key_of a = ranked _ _ _ (sym ((e rising).0 k nowhere (omega arith) lt)) in omega arith)
+          (λ (le : i ≤ k). let more : key_of a < key_of (station_label ps k) = ranked _ _ _ (sym ((e rising).1 k nowhere le lk)) in omega arith)
+          side
