@@ -1,7 +1,6 @@
 // Making a frame, and its slots.
 ghost use Rattle.std.specs.Prelude.{◌≡◌};
 ghost use Rattle.slot.specs.Slots.{laid};
-ghost use Rattle.slot.specs.Codings.{coding_of};
 ghost use Rattle.wire.specs.Frames.{carried, framed};
 ghost use Rattle.wire.specs.Slots.{slot_of, slot_bytes};
 
@@ -24,7 +23,7 @@ fn frame_of(bytes: &[u8]) -> Frame
 }
 
 fn slot_in<K: Kind>(frame: &Frame, slots: usize, s: usize) -> Option<K>
-    ensures { result ≡ slot_of (coding_of K.wide K.reads K.writes K.blank) slots s (carried frame.now) }
+    ensures { result ≡ slot_of K.coding slots s (carried frame.now) }
 {
     if s >= slots {
         return None;
@@ -58,7 +57,7 @@ impl Frame {
     // The value in slot `s` of a frame of so many slots; missing where there is no such slot, or the frame has
     // another length.
     pub fn slot<K: Kind>(&self, slots: usize, s: usize) -> Option<K>
-        ensures { result ≡ slot_of (coding_of K.wide K.reads K.writes K.blank) slots s (carried self.now) }
+        ensures { result ≡ slot_of K.coding slots s (carried self.now) }
     {
         slot_in::<K>(self, slots, s)
     }
@@ -66,7 +65,7 @@ impl Frame {
 
 // Writes a slot at the start, where there is room for it, and keeps the bytes behind it.
 pub fn write_slot<K: Kind>(value: Option<K>, out: &mut [u8])
-    ensures { out.new ≡ laid (slot_bytes (coding_of K.wide K.reads K.writes K.blank) value) out.old }
+    ensures { out.new ≡ laid (slot_bytes K.coding value) out.old }
 {
     match value {
         Some(v) => v.write(out),

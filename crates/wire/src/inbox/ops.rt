@@ -1,6 +1,5 @@
 // Filling the table, and reading slots in it.
 ghost use Rattle.std.specs.Prelude.{◌≡◌, replicate, Some, None, slice_set};
-ghost use Rattle.slot.specs.Codings.{coding_of};
 ghost use Rattle.wire.specs.Boxes.{from};
 ghost use Rattle.wire.specs.Frames.{framed, box_of};
 ghost use Rattle.wire.specs.Slots.{slot_from};
@@ -18,7 +17,7 @@ fn put_at(inbox: &mut Inbox, sender: usize, bytes: &[u8])
 }
 
 fn slot_from<K: Kind>(inbox: &Inbox, sender: usize, slots: usize, s: usize) -> Option<K>
-    ensures { result ≡ slot_from (coding_of K.wide K.reads K.writes K.blank) slots s (from (box_of inbox.now) sender) }
+    ensures { result ≡ slot_from K.coding slots s (from (box_of inbox.now) sender) }
 {
     if sender >= 16 {
         return None;
@@ -46,7 +45,7 @@ impl Inbox {
 
     // The value in slot `s` of a sender's frame of so many slots; missing where nothing came.
     pub fn slot<K: Kind>(&self, sender: usize, slots: usize, s: usize) -> Option<K>
-        ensures { result ≡ slot_from (coding_of K.wide K.reads K.writes K.blank) slots s (from (box_of self.now) sender) }
+        ensures { result ≡ slot_from K.coding slots s (from (box_of self.now) sender) }
     {
         slot_from::<K>(self, sender, slots, s)
     }
