@@ -83,15 +83,14 @@ impl Kind for Position {
     }
 
     fn read(bytes: &[u8]) -> Option<Position> {
-        if bytes.len() != 2 {
+        let [high, low] = bytes else {
             return None;
-        }
-        Position::new(256 * bytes[0] as usize + bytes[1] as usize)
+        };
+        Position::new(usize::from(u16::from_be_bytes([*high, *low])))
     }
 
     fn write(self, out: &mut [u8]) {
-        let number = self.number();
-        lay(&[(number / 256) as u8, (number % 256) as u8], out)
+        lay(&(self.number() as u16).to_be_bytes(), out)
     }
 
     fn write_missing(out: &mut [u8]) {
