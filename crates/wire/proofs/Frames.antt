@@ -18,6 +18,14 @@ laid_front bytes out h =
 pub framed_short : (bytes : List ℕ) → length bytes ≤ 128 → framed bytes ≡ bytes
 framed_short bytes h = cond-true (leb (length bytes) 128) bytes [] (le-leb (length bytes) 128 h)
 
+-- a buffer that bytes were laid into, up to their length
+pub framed_front : (bytes out : List ℕ) → length out ≡ 128 → length bytes ≤ 128 → take (length bytes) (laid bytes out) ≡ framed bytes
+framed_front bytes out size h = laid_front bytes out (omega arith) ∙ sym (framed_short bytes h)
+
+-- and up to a number that is their length
+pub written_front : (bytes out : List ℕ) (w : ℕ) → length bytes ≡ w → length bytes ≤ length out → take w (laid bytes out) ≡ bytes
+written_front bytes out w e h = ap (λ k. take k (laid bytes out)) (sym e) ∙ laid_front bytes out h
+
 pub framed_long : (bytes : List ℕ) → 128 < length bytes → framed bytes ≡ []
 framed_long bytes h = cond-false (leb (length bytes) 128) bytes [] (lt-leb (length bytes) 128 h)
 
@@ -63,3 +71,10 @@ module _ {K : Type 0} (c : Coding K) (n s len : ℕ) (bytes : List ℕ) (long : 
       ap c.reads (same ∙ ap (λ k. take k (drop (w * s) (take len bytes))) size)
       ∙ sym (cond-true (ltb s n && eqb (length (take len bytes)) (w * n)) (c.reads (take w (drop (w * s) (take len bytes)))) None
       (and_from (ltb s n) (eqb (length (take len bytes)) (w * n)) (lt-ltb s n within) (eq-eqb _ _ whole)))
+
+-- the same for a number that is the width
+pub slot_read : {K : Type 0} (c : Coding K) (n s len v : ℕ) (bytes : List ℕ) → v ≡ c.wide → length bytes ≡ 128 → len ≤ 128 → len ≡ v * n → s < n
+    → c.reads (take ((v * s + v) - v * s) (drop (v * s) bytes)) ≡ slot_of c n s (take len bytes)
+slot_read c n s len v bytes e long short full within =
+    ap (λ w. c.reads (take ((w * s + w) - w * s) (drop (w * s) bytes))) e
+    ∙ slot_is c n s len bytes long short (full ∙ ap (λ w. w * n) e) within
