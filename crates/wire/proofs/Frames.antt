@@ -1,11 +1,12 @@
 -- Frames and tables of frames.
-use Rattle.std.proofs.Common.{◌≡◌, ℕ, zero, suc, ◌+◌, ◌-◌, ◌*◌, ◌<◌, ◌≤◌, ◌&&◌, eqb, ltb, leb, List, [], ◌∷◌, ◌++◌, map, length, get_or, take, drop, None, Option, sym, refl, ap, ◌∙◌, mul-le-mul_right, mul-le-mul_left, mul-suc, arith, length-take, length-take-le, take-take, take_at}
+use Rattle.std.proofs.Common.{◌≡◌, ℕ, zero, suc, ◌+◌, ◌-◌, ◌*◌, ◌<◌, ◌≤◌, ◌&&◌, eqb, ltb, leb, List, [], ◌∷◌, ◌++◌, map, length, get_or, take, drop, set, Some, None, Option, sym, refl, ap, ◌∙◌, mul-le-mul_right, mul-le-mul_left, mul-suc, arith, length-take, length-take-le, take-take, take_at}
+use Rattle.std.proofs.lemmas.List.{map-set, set_past, length-map}
 use Rattle.std.proofs.lemmas.Slice.{between_is}
 use Rattle.std.proofs.lemmas.Bool.{and_from, and_right, cond-true, cond-false, eq-eqb, ne_eqb, lt-ltb, le-leb, lt-leb}
 use Rattle.slot.specs.Codings.{Coding, Lawful}
 use Rattle.slot.specs.Slots.{laid}
 use Rattle.wire.specs.Boxes.{from}
-use Rattle.wire.specs.Frames.{framed, sent}
+use Rattle.wire.specs.Frames.{carried, framed, sent}
 use Rattle.wire.specs.Slots.{slot_of}
 use Rattle.wire.specs.declared.frame.Frame.{Frame}
 
@@ -34,6 +35,14 @@ pub from_place : (fs : List (Option Frame)) (i : ℕ) (f : Option Frame) → i <
 from_place [] i f h e = absurd (omega arith)
 from_place (x ∷ fs) zero f h e = ap sent (sym e)
 from_place (x ∷ fs) (suc i) f h e = from_place fs i f (omega arith) e
+
+-- a frame put at a place, and at none
+pub put_place : (fs : List (Option Frame)) (i : ℕ) (f : Frame) (bytes : List ℕ) → carried f ≡ framed bytes
+    → map sent (set fs i (Some f)) ≡ set (map sent fs) i (Some (framed bytes))
+put_place fs i f bytes e = map-set sent fs i (Some f) ∙ ap (λ b. set (map sent fs) i (Some b)) e
+
+pub put_past : (fs : List (Option Frame)) (i : ℕ) (b : Option (List ℕ)) → length fs ≤ i → map sent fs ≡ set (map sent fs) i b
+put_past fs i b h = sym (set_past (map sent fs) i b (omega (arith, length-map fs sent)))
 
 -- a slot ends within its frame
 pub slot_ends : (w s n : ℕ) → s < n → w * s + w ≤ w * n
