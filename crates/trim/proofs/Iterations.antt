@@ -41,10 +41,12 @@ so_far_more m D r f k top w next t e n =
     let g : ℕ → ℕ = λ j. worst m (ceil (j * D) m) r (f - j) in
     omega (arith, ap (so_far g) (add-one k), t, e, n)
 
-pub so_far_worst : (m D r f top : ℕ) → 0 < r → top ≡ so_far (λ j. worst m (ceil (j * D) m) (r - 1) (f - j)) (f + 1) → top ≡ worst m D r f
-so_far_worst m D r f top some e =
+pub so_far_last : (m D r f k top w next : ℕ) → 0 < r → k ≡ f → top ≡ so_far (λ j. worst m (ceil (j * D) m) (r - 1) (f - j)) k → w ≡ worst m (ceil (k * D) m) (r - 1) (f - k)
+    → next ≡ max top w → next ≡ worst m D r f
+so_far_last m D r f k top w next some last t e n =
     let g : ℕ → ℕ = λ j. worst m (ceil (j * D) m) (r - 1) (f - j) in
-    e ∙ ap (so_far g) (add-one f) ∙ so_far_all g f ∙ ap (λ x. worst m D x f) (let q : suc (r - 1) ≡ r = omega arith in q)
+    so_far_more m D (r - 1) f k top w next t e n ∙ ap (λ j. so_far g (j + 1)) last ∙ ap (so_far g) (add-one f) ∙ so_far_all g f
+    ∙ ap (λ x. worst m D x f) (let q : suc (r - 1) ≡ r = omega arith in q)
 
 ceil_more : (a b m : ℕ) → 0 < m → a ≤ b → ceil a m ≤ ceil b m
 ceil_more a b m pos h = (le-div_iff_mul-le {k = m} {x = ceil a m} {y = b + (m - 1)} pos).1 (omega (arith, div-mul-le_self (a + (m - 1)) m))

@@ -48,6 +48,7 @@ impl Spread {
     }
 
     // After `r` iterations.
+    #[tactic(auto, using(crate::proofs::Iterations::so_far_more, crate::proofs::Iterations::so_far_last))]
     fn worst(self, r: usize) -> usize
         ensures { result ≡ worst self.m self.spread r self.f }
     {
