@@ -1,6 +1,5 @@
 // Counting the frames that carry a value, and the value that enough of them carry.
 ghost use Rattle.std.specs.Prelude.{◌≡◌, not};
-ghost use Rattle.slot.specs.Codings.{coding_of};
 ghost use Rattle.wire.specs.Boxes.{from};
 ghost use Rattle.wire.specs.Frames.{box_of};
 ghost use Rattle.wire.specs.Slots.{slot_from, column, holds, count, kept, reaches, vote};
@@ -11,7 +10,7 @@ use slot::Kind;
 
 // Whether a slot holds the value.
 fn is_value<K: Kind>(slot: Option<K>, value: K) -> bool
-    ensures { result ≡ holds (coding_of K.wide K.reads K.writes K.blank) value slot }
+    ensures { result ≡ holds K.coding value slot }
 {
     match slot {
         Some(found) => found == value,
@@ -20,7 +19,7 @@ fn is_value<K: Kind>(slot: Option<K>, value: K) -> bool
 }
 
 fn tally_of<K: Kind>(inbox: &Inbox, units: usize, s: usize, value: K) -> usize
-    ensures { let k = coding_of K.wide K.reads K.writes K.blank in result ≡ count k value (column k units s (box_of inbox.now)) }
+    ensures { result ≡ count K.coding value (column K.coding units s (box_of inbox.now)) }
 {
     let mut n = 0;
     for sender in 0..units {
@@ -40,7 +39,7 @@ fn candidate<K: Kind>(
     quorum: usize,
     except: Option<K>,
 ) -> Option<K>
-    ensures { let k = coding_of K.wide K.reads K.writes K.blank in result ≡ kept (reaches k quorum (column k units s (box_of inbox.now)) except) (slot_from k units s (from (box_of inbox.now) sender)) }
+    ensures { result ≡ kept (reaches K.coding quorum (column K.coding units s (box_of inbox.now)) except) (slot_from K.coding units s (from (box_of inbox.now) sender)) }
 {
     match inbox.slot::<K>(sender, units, s) {
         Some(value) => {
@@ -59,8 +58,8 @@ fn vote_of<K: Kind>(
     quorum: usize,
     except: Option<K>,
 ) -> Option<K>
-    ensures value { let k = coding_of K.wide K.reads K.writes K.blank in result ≡ vote k quorum except (column k units s (box_of inbox.now)) }
-    ensures counted { let k = coding_of K.wide K.reads K.writes K.blank in Voted k quorum except (column k units s (box_of inbox.now)) result }
+    ensures value { result ≡ vote K.coding quorum except (column K.coding units s (box_of inbox.now)) }
+    ensures counted { Voted K.coding quorum except (column K.coding units s (box_of inbox.now)) result }
 {
     for sender in 0..units {
         let found = candidate(inbox, sender, units, s, quorum, except);
@@ -74,7 +73,7 @@ fn vote_of<K: Kind>(
 impl Inbox {
     // How many of the frames of the first `units` senders, of so many slots each, carry the value in slot `s`.
     pub fn tally<K: Kind>(&self, units: usize, s: usize, value: K) -> usize
-        ensures { let k = coding_of K.wide K.reads K.writes K.blank in result ≡ count k value (column k units s (box_of self.now)) }
+        ensures { result ≡ count K.coding value (column K.coding units s (box_of self.now)) }
     {
         tally_of(self, units, s, value)
     }
@@ -88,8 +87,8 @@ impl Inbox {
         quorum: usize,
         except: Option<K>,
     ) -> Option<K>
-        ensures value { let k = coding_of K.wide K.reads K.writes K.blank in result ≡ vote k quorum except (column k units s (box_of self.now)) }
-        ensures counted { let k = coding_of K.wide K.reads K.writes K.blank in Voted k quorum except (column k units s (box_of self.now)) result }
+        ensures value { result ≡ vote K.coding quorum except (column K.coding units s (box_of self.now)) }
+        ensures counted { Voted K.coding quorum except (column K.coding units s (box_of self.now)) result }
     {
         vote_of(self, units, s, quorum, except)
     }

@@ -1,5 +1,4 @@
 use Rattle.std.proofs.Common.{◌≡◌, ℕ, sym, ap, ◌∙◌, arith}
-use Rattle.slot.proofs.Laws.{coding}
 use Rattle.wire.specs.Boxes.{from}
 use Rattle.wire.specs.Frames.{box_of}
 use Rattle.wire.specs.Slots.{holds, slot_from}
@@ -10,7 +9,7 @@ use Rattle.wire.proofs.inbox.votes.tally_of.Goals.{then-is_value, else-is_value}
 
 pub loop-sender-preserved : goal.loop-sender-preserved
 loop-sender-preserved g c =
-    let k = coding g.K.Kind in
+    let k = g.K.Kind.coding in
     let f = λ (i : ℕ). slot_from k c.args.units c.args.s (from (box_of c.args.inbox.now) i) in
     let i = c.loop-sender.sender in
     let more = count_more (holds k c.args.value) f i in
