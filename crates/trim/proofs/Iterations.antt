@@ -1,7 +1,10 @@
 -- How many rounds and iterations suffice.
-use Rattle.std.proofs.Common.{◌≡◌, ℕ, zero, suc, ◌+◌, ◌-◌, ◌*◌, ◌^◌, ◌<◌, ◌≤◌, max, Bool, true, false, cond, leb, sym, refl, ap, ◌∙◌, subst, ⊎_elim, mul-le-mul_right, suc-mul, mul_comm, div-lt_iff_lt-mul, mul-le-mul_left, mul-zero, le-div_iff_mul-le, div-mul-le_self, arith, pow_pos}
+use Rattle.std.proofs.Common.{◌≡◌, ℕ, zero, suc, ◌+◌, ◌-◌, ◌*◌, ◌/◌, ◌^◌, ◌<◌, ◌≤◌, max, Bool, true, false, cond, leb, sym, refl, ap, ◌∙◌, subst, ⊎_elim, add-one, mul-le-mul_right, suc-mul, mul_comm, div-lt_iff_lt-mul, mul-le-mul_left, mul-zero, le-div_iff_mul-le, div-mul-le_self, arith, pow_pos}
+use Rattle.std.specs.Int.{IsPowerOfTwo, div_ceil}
+use Rattle.std.proofs.Math.Pow.{pow-lt, pow_mono}
+use Rattle.std.proofs.lemmas.Grind.{div_ceil_times}
 use native.Mathlib.Nat.{two-pow-succ, div-eq_of_lt}
-use Rattle.std.proofs.lemmas.Bool.{leb-true, le-leb, cases_lt, cases_eq, true≢false}
+use Rattle.std.proofs.lemmas.Bool.{leb-true, le-leb, cases_lt, cases_eq, cases_order, true≢false}
 use Rattle.trim.specs.Steps.{ceil}
 use Rattle.trim.specs.Iterations.{halves, most, worst, first_from, doublings, iterations, Least, Worsts}
 
@@ -31,6 +34,20 @@ pub so_far_all : (g : ℕ → ℕ) (f : ℕ) → so_far g (suc f) ≡ most g f
 so_far_all g zero = omega arith
 so_far_all g (suc f) = omega (arith, so_far_all g f)
 
+-- one more of the numbers that a greatest spread is taken of, and all of them
+pub so_far_more : (m D r f k top w next : ℕ) → top ≡ so_far (λ j. worst m (ceil (j * D) m) r (f - j)) k → w ≡ worst m (ceil (k * D) m) r (f - k) → next ≡ max top w
+    → next ≡ so_far (λ j. worst m (ceil (j * D) m) r (f - j)) (k + 1)
+so_far_more m D r f k top w next t e n =
+    let g : ℕ → ℕ = λ j. worst m (ceil (j * D) m) r (f - j) in
+    omega (arith, ap (so_far g) (add-one k), t, e, n)
+
+pub so_far_last : (m D r f k top w next : ℕ) → 0 < r → k ≡ f → top ≡ so_far (λ j. worst m (ceil (j * D) m) (r - 1) (f - j)) k → w ≡ worst m (ceil (k * D) m) (r - 1) (f - k)
+    → next ≡ max top w → next ≡ worst m D r f
+so_far_last m D r f k top w next some last t e n =
+    let g : ℕ → ℕ = λ j. worst m (ceil (j * D) m) (r - 1) (f - j) in
+    so_far_more m D (r - 1) f k top w next t e n ∙ ap (λ j. so_far g (j + 1)) last ∙ ap (so_far g) (add-one f) ∙ so_far_all g f
+    ∙ ap (λ x. worst m D x f) (let q : suc (r - 1) ≡ r = omega arith in q)
+
 ceil_more : (a b m : ℕ) → 0 < m → a ≤ b → ceil a m ≤ ceil b m
 ceil_more a b m pos h = (le-div_iff_mul-le {k = m} {x = ceil a m} {y = b + (m - 1)} pos).1 (omega (arith, div-mul-le_self (a + (m - 1)) m))
 
@@ -39,6 +56,15 @@ pub ceil_part : (k D m : ℕ) → 0 < m → k ≤ m → ceil (k * D) m ≤ D
 ceil_part k D m pos h =
     let r : k * D + (m - 1) < suc D * m = omega (arith, mul-le-mul_right {m = k} {n = m} D h, suc-mul D m, mul_comm D m) in
     omega (arith, (div-lt_iff_lt-mul {k = m} {x = k * D + (m - 1)} {y = suc D} pos).1 r)
+
+-- std's `div_ceil`, which rounds up too
+pub ceil_is : (a m : ℕ) → 0 < m → div_ceil a m ≡ ceil a m
+ceil_is a m pos =
+    let q = div_ceil a m in
+    let b = div_ceil_times a m pos in
+    let low : q ≤ ceil a m = (le-div_iff_mul-le {k = m} {x = q} {y = a + (m - 1)} pos).1 (omega (arith, b.1)) in
+    let high : ceil a m < suc q = (div-lt_iff_lt-mul {k = m} {x = a + (m - 1)} {y = suc q} pos).1 (omega (arith, b.0, suc-mul q m)) in
+    omega (arith, low, high)
 
 pub worst_one : (m D r f k : ℕ) → k ≤ f → worst m (ceil (k * D) m) r (f - k) ≤ worst m D (suc r) f
 worst_one m D r f k h = most_at (λ j. worst m (ceil (j * D) m) r (f - j)) f k h
@@ -121,6 +147,28 @@ below_pow (suc k) = let h : k ≤ 2 ^ k = below_pow k in omega (arith, two-pow-s
 
 pub doublings-least : (wide : ℕ) → Least (λ k. wide ≤ 2 ^ k) (doublings wide)
 doublings-least wide = least_first (λ k. wide) (λ k. 2 ^ k) wide (below_pow wide)
+
+-- the least power of two that reaches wide, by its logarithm
+pub log_least : (wide p r : ℕ) → IsPowerOfTwo p → wide ≤ p → p / 2 < max 1 wide → 2 ^ r ≤ p → p < 2 * 2 ^ r → Least (λ k. wide ≤ 2 ^ k) r
+log_least wide p r power reach first low high =
+    let k = power.0 in
+    let e : k ≡ r =
+    ⊎_elim
+    (λ same. same)
+    (λ o. ⊎_elim
+    (λ lt. absurd (omega (arith, power.1, pow-lt {i = k} {j = r} lt, low)))
+    (λ gt. absurd (omega (arith, power.1, pow_mono {i = suc r} {j = k} gt, two-pow-succ r, high)))
+    o)
+    (cases_order k r) in
+    let p_is : p ≡ 2 ^ r = power.1 ∙ ap (λ j. 2 ^ j) e in
+    record {
+      holds = omega (arith, p_is, reach);
+      none_below = λ j l h. omega (arith, pow_mono {i = suc j} {j = r} l, two-pow-succ j, pow_pos j, p_is, first, h);
+    }
+
+pub doublings_log : (wide p r : ℕ) → IsPowerOfTwo p → wide ≤ p → p / 2 < max 1 wide → 2 ^ r ≤ p → p < 2 * 2 ^ r → r ≡ doublings wide
+doublings_log wide p r power reach first low high =
+    least_same (λ k. wide ≤ 2 ^ k) r (doublings wide) (log_least wide p r power reach first low high) (doublings-least wide)
 
 pub doublings-few : (wide : ℕ) → wide ≤ 2048 → doublings wide ≤ 11
 doublings-few wide h = least_within (λ k. wide ≤ 2 ^ k) (doublings wide) 11 (doublings-least wide) h

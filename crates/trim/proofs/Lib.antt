@@ -1,3 +1,4 @@
+pub mod Made
 pub mod Sorting
 pub mod Layers
 pub mod Steps

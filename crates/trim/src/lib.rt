@@ -4,8 +4,6 @@
 
 mod list;
 mod rounds;
-mod step;
 
-pub use list::list_entry;
+pub use list::{UnitList, list_entry};
 pub use rounds::{graded_iterations, halving_rounds, worst};
-pub use step::{graded_step, halving_step};

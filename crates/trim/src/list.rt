@@ -1,41 +1,21 @@
-// A unit's list of positions, from the slots that it has.
-ghost use Rattle.std.specs.Prelude.{◌≡◌, ◌≤◌, map, length, take};
-ghost use Rattle.trim.specs.Entries.{entry_of};
-ghost use Rattle.trim.specs.Trims.{sorted};
+// What a unit's list of positions is made of.
+ghost use Rattle.std.specs.Prelude.{◌+◌, ◌*◌, ◌≤◌, length};
 
 use slot::Position;
 
-// What a slot adds to the list: its position's number, and 1 where it is missing or its position is above the span.
-pub fn list_entry(slot: Option<Position>, span: usize) -> usize
-    ensures { result ≡ entry_of span slot }
-{
-    match slot {
-        Some(position) => {
-            let number = position.number();
-            if number <= span { number } else { 1 }
-        }
-        None => 1,
-    }
-}
+mod ops;
+mod steps;
 
-// The entries of at most 16 slots at the start of an array.
-fn entries(slots: &[Option<Position>], span: usize) -> [usize; 16]
-    requires { length slots.now ≤ 16 }
-    ensures { take (length slots.now) result ≡ map (entry_of span) slots.now }
-{
-    let mut list = [1; 16];
-    for (i, slot) in slots.iter().enumerate() {
-        list[i] = list_entry(*slot, span);
-    }
-    list
-}
+pub use ops::list_entry;
 
-// The same, lowest first.
-pub fn in_order(slots: &[Option<Position>], span: usize) -> [usize; 16]
-    requires { length slots.now ≤ 16 }
-    ensures { take (length slots.now) result ≡ sorted (map (entry_of span) slots.now) }
-{
-    let mut list = entries(slots, span);
-    list[0..slots.len()].sort_unstable();
-    list
+// The slots that a unit has, the span of the line, and how many units may be faulty.
+#[derive(Clone, Copy)]
+pub struct UnitList<'a> {
+    slots: &'a [Option<Position>],
+    span: usize,
+    t: usize,
+    ghost few: { length slots.now ≤ 16 },
+    ghost enough: { 3 * t + 1 ≤ length slots.now },
+    ghost some: { 1 ≤ span },
+    ghost short: { span ≤ 2047 },
 }

@@ -1,27 +1,11 @@
 // How many rounds the halving line takes, and how many iterations the graded line.
 ghost use Rattle.std.specs.Prelude.{◌≡◌, ℕ, ◌+◌, ◌-◌, ◌*◌, ◌^◌, ◌<◌, ◌≤◌};
 ghost use Rattle.trim.specs.Runs.{Runs};
-ghost use Rattle.trim.specs.Iterations.{worst, doublings, halving_rounds, iterations, graded_iterations, Least, Worsts};
-
-// The least k with 2 ^ k at least `wide`.
-fn doublings_to(wide: usize) -> usize
-    requires { wide ≤ 2046 }
-    ensures is { result ≡ doublings wide }
-    ensures least { Least (λ k. wide ≤ 2 ^ k) result }
-    ensures few { result ≤ 11 }
-    ensures worsts { Worsts }
-    ensures runs { Runs }
-{
-    let mut k = 0;
-    let mut reach = 1;
-    while reach < wide {
-        reach *= 2;
-        k += 1;
-    }
-    k
-}
+ghost use Rattle.trim.specs.Steps.{ceil};
+ghost use Rattle.trim.specs.Iterations.{worst, halving_rounds, iterations, graded_iterations, Least, Worsts};
 
 // The rounds of the halving line: the least k with 2 ^ k at least the span less one.
+#[tactic(auto, using(crate::proofs::Iterations::doublings_log, crate::proofs::Iterations::worsts, crate::proofs::Runs::runs))]
 pub fn halving_rounds(span: usize) -> usize
     requires some { 1 ≤ span }
     requires short { span ≤ 2047 }
@@ -31,26 +15,67 @@ pub fn halving_rounds(span: usize) -> usize
     ensures worsts { Worsts }
     ensures runs { Runs }
 {
-    doublings_to(span - 1)
+    (span - 1).next_power_of_two().ilog2() as usize
 }
 
-// What `worst` answers, by a recursion on `r`.
-fn worst_of(m: usize, spread: usize, r: usize, f: usize) -> usize
-    requires some { 1 ≤ m }
-    requires few { m ≤ 16 }
-    requires fewer { f ≤ m }
-    requires short { spread ≤ 2046 }
-    ensures { result ≡ worst m spread r f }
-{
-    if r == 0 {
-        return spread;
+// The greatest spread before an iteration of the graded line, where `m` entries are left of each list and the lists can
+// still differ at `f` units.
+#[derive(Clone, Copy)]
+struct Spread {
+    m: usize,
+    spread: usize,
+    f: usize,
+    ghost some: { 1 ≤ m },
+    ghost few: { m ≤ 16 },
+    ghost fewer: { f ≤ m },
+    ghost short: { spread ≤ 2046 },
+}
+
+impl Spread {
+    // After an iteration in which the lists differ at `k` units.
+    #[tactic(auto, using(crate::proofs::Iterations::ceil_is))]
+    fn after(self, k: usize) -> Spread
+        requires { k ≤ self.f }
+        ensures m { result.m ≡ self.m }
+        ensures spread { result.spread ≡ ceil (k * self.spread) self.m }
+        ensures f { result.f ≡ self.f - k }
+    {
+        Spread {
+            m: self.m,
+            spread: (k * self.spread).div_ceil(self.m),
+            f: self.f - k,
+        }
     }
-    let mut top: usize = 0;
-    for k in 0..f + 1 {
-        let next = worst_of(m, (k * spread + (m - 1)) / m, r - 1, f - k);
-        top = top.max(next);
+
+    // After `r` iterations.
+    #[tactic(auto, using(crate::proofs::Iterations::so_far_more, crate::proofs::Iterations::so_far_last))]
+    fn worst(self, r: usize) -> usize
+        ensures { result ≡ worst self.m self.spread r self.f }
+    {
+        if r == 0 {
+            return self.spread;
+        }
+        // A loop: of a closure that calls its own function again, nothing says that a call leaves its captures as they are.
+        let mut top: usize = 0;
+        for k in 0..=self.f {
+            top = top.max(self.after(k).worst(r - 1));
+        }
+        top
     }
-    top
+
+    // The least number of iterations that leave at most 1, where fewer than `r` leave more.
+    fn least_from(self, r: usize) -> usize
+        requires { (j : ℕ) → j < r → 1 < worst self.m self.spread j self.f }
+        ensures is { result ≡ iterations self.m self.spread self.f }
+        ensures least { Least (λ j. worst self.m self.spread j self.f ≤ 1) result }
+        ensures most { result ≤ self.f + 1 }
+    {
+        if self.worst(r) <= 1 {
+            r
+        } else {
+            self.least_from(r + 1)
+        }
+    }
 }
 
 // The greatest spread that `r` iterations can leave of a spread, where `m` entries are left of each list and the lists
@@ -62,30 +87,11 @@ pub fn worst(m: usize, spread: usize, r: usize, f: usize) -> usize
     requires short { spread ≤ 2046 }
     ensures { result ≡ worst m spread r f }
 {
-    worst_of(m, spread, r, f)
-}
-
-// The least number of iterations that leave at most 1 of a spread, where fewer than `r` leave more.
-fn least_from(m: usize, spread: usize, f: usize, r: usize) -> usize
-    requires some { 1 ≤ m }
-    requires few { m ≤ 16 }
-    requires fewer { f ≤ m }
-    requires short { spread ≤ 2046 }
-    requires before { (j : ℕ) → j < r → 1 < worst m spread j f }
-    ensures is { result ≡ iterations m spread f }
-    ensures least { Least (λ j. worst m spread j f ≤ 1) result }
-    ensures most { result ≤ f + 1 }
-    ensures worsts { Worsts }
-    ensures runs { Runs }
-{
-    if worst(m, spread, r, f) <= 1 {
-        r
-    } else {
-        least_from(m, spread, f, r + 1)
-    }
+    Spread { m, spread, f }.worst(r)
 }
 
 // The iterations of the graded line: the least number that leaves at most 1 of the span less one.
+#[tactic(auto, using(crate::proofs::Iterations::worsts, crate::proofs::Runs::runs))]
 pub fn graded_iterations(n: usize, t: usize, span: usize) -> usize
     requires few { n ≤ 16 }
     requires enough { 3 * t + 1 ≤ n }
@@ -97,5 +103,10 @@ pub fn graded_iterations(n: usize, t: usize, span: usize) -> usize
     ensures worsts { Worsts }
     ensures runs { Runs }
 {
-    least_from(n - 2 * t, span - 1, t, 0)
+    Spread {
+        m: n - 2 * t,
+        spread: span - 1,
+        f: t,
+    }
+    .least_from(0)
 }
