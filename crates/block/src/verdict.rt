@@ -1,10 +1,12 @@
 // Whether a block is good, and how many records it has.
 ghost use Rattle.std.specs.Prelude.{◌≡◌, ◌==◌, ◌+◌, ◌<◌, ◌≤◌, length};
+ghost use Rattle.std.specs.List.{list_all};
 ghost use Rattle.block.specs.Blocks.{check_of, check_sum, word, blank_from, block_verdict};
 
 use crate::fault::{BlockCause, BlockFault};
 
 // The check of the bytes before it, at most 510: the sum of each byte times its place, counted from 1, modulo 65,536.
+#[tactic(auto, unfolding(crate::specs::Blocks::check_of))]
 pub fn check_sum(bytes: &[u8]) -> u16
     requires { length bytes.now ≤ 510 }
     ensures { result ≡ check_of bytes.now }
@@ -33,12 +35,20 @@ fn is_checked(block: &[u8]) -> bool
     check_sum(&block[0..510]) == word_at(block, 510)
 }
 
+// Whether all bytes are 0.
+fn is_blank(bytes: &[u8]) -> bool
+    ensures { result ≡ list_all (λ b. b == 0) bytes.now }
+{
+    bytes.iter().all(|byte| *byte == 0)
+}
+
 // Whether all bytes from `start` up to the check are 0.
+#[tactic(auto, using(crate::proofs::Steps::blank_is))]
 fn blank_after(block: &[u8], start: usize) -> bool
     requires { (length block.now ≡ 512) × (start ≤ 510) }
     ensures { result ≡ blank_from block.now start }
 {
-    block[start..510].iter().all(|byte| *byte == 0)
+    is_blank(&block[start..510])
 }
 
 // How many records the block has, or its first fault. Its place is `place`, `last` says whether it is the final
