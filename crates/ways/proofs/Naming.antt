@@ -5,7 +5,7 @@ use lib.ListN.{length-map}
 use Rattle.label.specs.declared.label.Label.{Label}
 use Rattle.tree.specs.declared.Station.{Station}
 use Rattle.tree.specs.Courses.{course_from}
-use Rattle.tree.specs.Stations.{station_label, parent_of, depth_of, Canonical, rooted}
+use Rattle.tree.specs.Stations.{station_label, parent_of, depth_of, Canonical}
 use Rattle.tree.specs.Walks.{walk_from, tour_from}
 use Rattle.tree.proofs.Turns.{walk_step, tour_left, tour_start, tour_yes, tour_no, tour_end, tour_length}
 use Rattle.tree.proofs.Courses.{course_met, course_from_right, course_from-left}

@@ -1,5 +1,5 @@
 -- What entries and places of the walk say of labels.
-use Rattle.std.proofs.Common.{◌≡◌, ℕ, zero, suc, ◌+◌, ◌-◌, ◌<◌, ◌≤◌, List, [], ◌∷◌, length, get_or, Some, None, Option, MatchOption, unwrap_or, slice_get, sym, refl, ap, ◌∙◌, subst, ⊎_elim, arith}
+use Rattle.std.proofs.Common.{◌≡◌, ℕ, suc, ◌+◌, ◌-◌, ◌<◌, ◌≤◌, List, [], ◌∷◌, length, get_or, Some, None, Option, MatchOption, unwrap_or, slice_get, sym, refl, ap, ◌∙◌, subst, ⊎_elim, arith}
 use Rattle.std.specs.Option.{SomeIff}
 use Rattle.std.specs.List.{HoldsAt, AllWithin}
 use Rattle.std.proofs.lemmas.Option.{unwrap_or-slice_get}
@@ -10,10 +10,9 @@ use Rattle.tree.specs.Stations.{Canonical}
 use Rattle.tree.specs.Caves.{Holds, root_label}
 use Rattle.tree.specs.Ways.{On}
 use Rattle.tree.specs.Walks.{walk_labels}
-use Rattle.tree.specs.WalkLaws.{FirstPlace}
 use Rattle.tree.proofs.Turns.{walk_step}
 use Rattle.tree.proofs.Walking.{walk_laws}
-use Rattle.ways.specs.Calls.{CountsAs, Placed, entry_at}
+use Rattle.ways.specs.Calls.{Placed, entry_at}
 
 -- what stands in a list has an index there
 on_index : {X : Type 0} (a d : X) (xs : List X) → On a xs → (k : ℕ) × ((k < length xs) × (get_or xs k d ≡ a))

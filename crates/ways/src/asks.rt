@@ -35,10 +35,8 @@ impl Cave<'_> {
     pub fn height(&self) -> usize
         ensures { Height self.now.stations.now result }
     {
-        let depths = self
-            .stations
-            .iter()
-            .map(|station| usize::from(station.depth));
+        let stations = self.stations.iter();
+        let depths = stations.map(|station| usize::from(station.depth));
         depths.max().unwrap_or(0)
     }
 

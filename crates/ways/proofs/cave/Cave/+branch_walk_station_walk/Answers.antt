@@ -1,5 +1,5 @@
 use Rattle.std.proofs.Math.ListN.{length-map}
-use Rattle.std.proofs.Common.{◌≡◌, ◌+◌, length, sym, ap, ◌∙◌, arith, length-append, rules}
+use Rattle.std.proofs.Common.{◌≡◌, ◌+◌, length, sym, ◌∙◌, arith, length-append, rules}
 use Rattle.tree.specs.Stations.{parent_of}
 use Rattle.tree.proofs.Turns.{walk_length, level_falls, level_same}
 use Rattle.ways.proofs.Branches.{next_branch, no_branch}

@@ -1,7 +1,4 @@
-use Rattle.std.proofs.Common.{List, sym, ap, ◌∙◌, subst, arith}
-use Rattle.label.specs.declared.label.Label.{Label}
-use Rattle.tree.specs.WalkLaws.{WalkLaws}
-use Rattle.tree.proofs.Walking.{walk_long, walk_laws, labels_long}
+use Rattle.tree.proofs.Walking.{walk_laws}
 use Rattle.ways.proofs.cave.Cave.walk.Goals as goal
 
 pub returns-clause-count : goal.returns-clause-count
