@@ -5,14 +5,15 @@ use Rattle.label.specs.declared.label.Label.{Label}
 use Rattle.tree.specs.declared.Station.{Station}
 use Rattle.tree.specs.Trees.{climb, AboveAt, MeetAt}
 use Rattle.tree.specs.Ways.{Way}
-use Rattle.tree.specs.Stations.{Canonical, station_label, parent_of, depth_of}
-use Rattle.tree.specs.Caves.{Holds, Leg, root_label, Above, Depth, Deepest, AtDepth}
+use Rattle.tree.specs.Stations.{Canonical, station_label, parent_of, depth_of, rooted}
+use Rattle.tree.specs.Caves.{Holds, Leg, root_label, Root, Above, Depth, Deepest, AtDepth}
 use Rattle.tree.specs.Courses.{course_from}
 use Rattle.tree.specs.Index.{Found}
 use Rattle.tree.specs.Walks.{walk_from, walk_labels, first_place}
 use Rattle.tree.specs.WalkLaws.{FirstPlace}
+use Rattle.tree.proofs.Climbs.{depth_pos}
 use Rattle.tree.proofs.Courses.{course_way}
-use Rattle.tree.proofs.Meaning.{above_held, above_is, depth_is, deepest_is, at_depth_is}
+use Rattle.tree.proofs.Meaning.{root_is, above_held, above_is, depth_is, deepest_is, at_depth_is}
 use Rattle.tree.proofs.Walking.{first_place_lem}
 use Rattle.ways.specs.Calls.{WayTold, CountsAs}
 
@@ -31,11 +32,18 @@ some_none : (n : ℕ) → ◌≡◌ {A = Option ℕ} (Some n) None → ⊥
 some_none n e = let z : ◌≡◌ {A = ℕ} 0 1 = cc in omega arith
 
 module _ (ps : List Station) (h : Canonical ps) where
+  pub told_root : (l : Label) → l ≡ station_label ps 0 → Root ps l
+  told_root l e = subst (λ (z : Label). Root ps z) (sym e) (root_is ps h)
+
+  pub depth_some : (u d : ℕ) → u < length ps → d ≡ depth_of ps u → 0 < d
+  depth_some u d l e = omega (arith, depth_pos (rooted ps h) u l)
+
   pub told_depth : (a : Label) (i d : ℕ) → At ps a i → d ≡ depth_of ps i → Depth ps a d
   told_depth a i d f e = subst (Depth ps a) (sym e) (subst (λ (z : Label). Depth ps z (depth_of ps i)) f.1 (depth_is ps h i f.0))
 
-  pub told_above : (a b : Label) (u v s : ℕ) → At ps a u → At ps b v → s ≡ climb (parent_of ps) (depth_of ps v - depth_of ps u) v → Decides (eqb s u) (Above ps a b)
-  told_above a b u v s fu fv e =
+  pub told_above : (a b : Label) (u v s d : ℕ) → At ps a u → At ps b v → d ≡ depth_of ps u → s ≡ climb (parent_of ps) (depth_of ps v - d) v → Decides (eqb s u) (Above ps a b)
+  told_above a b u v s d fu fv level value =
+      let e : s ≡ climb (parent_of ps) (depth_of ps v - depth_of ps u) v = value ∙ ap (λ (k : ℕ). climb (parent_of ps) (depth_of ps v - k) v) level in
       let here : Above ps a b → AboveAt (parent_of ps) (depth_of ps) u v = λ o.
       (above_is ps h u v fu.0 fv.0).1 (subst (λ (z : Label). Above ps z (station_label ps v)) (sym fu.1) (subst (λ (z : Label). Above ps a z) (sym fv.1) o)) in (
         (λ t.
@@ -60,9 +68,9 @@ module _ (ps : List Station) (h : Canonical ps) where
       subst (λ (z : Label). Deepest ps z a b) (sym e)
       (subst (λ (z : Label). Deepest ps (station_label ps m) z b) fu.1 (subst (λ (z : Label). Deepest ps (station_label ps m) (station_label ps u) z) fv.1 (deepest_is ps h m u v fu.0 fv.0 t)))
 
-  pub told_at_depth : (a l : Label) (v s k : ℕ) → At ps a v → 0 < k → s ≡ climb (parent_of ps) (depth_of ps v - k) v → l ≡ station_label ps s → AtDepth ps a k l
-  told_at_depth a l v s k f pos e el =
-      subst (λ (z : Label). AtDepth ps a k z) (sym (el ∙ ap (station_label ps) e)) (subst (λ (z : Label). AtDepth ps z k (station_label ps (climb (parent_of ps) (depth_of ps v - k) v))) f.1 (at_depth_is ps h v k f.0 pos))
+  pub told_at_depth : (a l : Label) (v s k : ℕ) → At ps a v → (k ≡ 0 → ⊥) → s ≡ climb (parent_of ps) (depth_of ps v - k) v → l ≡ station_label ps s → AtDepth ps a k l
+  told_at_depth a l v s k f ne e el =
+      subst (λ (z : Label). AtDepth ps a k z) (sym (el ∙ ap (station_label ps) e)) (subst (λ (z : Label). AtDepth ps z k (station_label ps (climb (parent_of ps) (depth_of ps v - k) v))) f.1 (at_depth_is ps h v k f.0 (omega arith)))
 
   pub told_way : (a b : Label) (before after : List Label) (u v n : ℕ) → At ps a u → At ps b v → take n after ≡ map (station_label ps) (course_from ps u v) → drop n after ≡ drop n before → n ≤ 1024 → WayTold ps a b before after (Some n)
   told_way a b before after u v n fu fv w d le =

@@ -41,6 +41,7 @@ impl Cave<'_> {
     }
 
     // Whether `upper` lies on the way from the root to `lower`.
+    #[tactic(auto, using(crate::proofs::Answering::depth_some))]
     pub fn is_above(&self, upper: Label, lower: Label) -> bool
         ensures { Decides result (Above self.now.stations.now upper lower) }
     {
