@@ -14,51 +14,52 @@ use Rattle.tree.proofs.Courses.{course_met, course_from_right, course_from-left}
 abbrev pub course_named : List Station → ℕ → ℕ → List Label
 course_named ps u v = map (station_label ps) (course_from ps u v)
 
-module _ (ps : List Station) (h : Canonical ps) (u v : ℕ) (lu : u < length ps) (lv : v < length ps) where
+module _ (ps : List Station) (h : Canonical ps) (u v : ℕ) (lu : u < length ps) (lv : v < length ps) (old : List Label) (room : length old + length (course_from ps u v) ≤ 1024) where
   -- the two stations are one: it alone is listed
-  pub met_room : u ≡ v → length (course_from ps u v) ≡ 1
-  met_room e = ap length (course_met ps h u v lu lv e)
+  pub met_push : u ≡ v → length old < 1024
+  met_push e = omega (arith, ap length (course_met ps h u v lu lv e))
 
-  pub met_listed : u ≡ v → (old new : List Label) (l : Label) → l ≡ station_label ps u → new ≡ old ++ l ∷ [] → new ≡ old ++ course_named ps u v
-  met_listed e old new l named pushed = pushed ∙ ap (λ (k : Label). old ++ k ∷ []) named ∙ sym (ap (λ (xs : List ℕ). old ++ map (station_label ps) xs) (course_met ps h u v lu lv e))
+  pub met_listed : u ≡ v → (new : List Label) (l : Label) → l ≡ station_label ps u → new ≡ old ++ l ∷ [] → new ≡ old ++ course_named ps u v
+  met_listed e new l named pushed = pushed ∙ ap (λ (k : Label). old ++ k ∷ []) named ∙ sym (ap (λ (xs : List ℕ). old ++ map (station_label ps) xs) (course_met ps h u v lu lv e))
 
   -- the second one is deeper: it is listed last
   module _ (up : ℕ) (is : up ≡ parent_of ps v) (ne : u ≡ v → ⊥) (lt : depth_of ps u < depth_of ps v) where
-    pub right_inside : up < length ps
-    right_inside = omega (arith, h.inside v lv, is)
-
-    pub right_falls : (t : ℕ) → depth_of ps u + depth_of ps v ≡ t → depth_of ps u + depth_of ps up < t
-    right_falls t e = omega (arith, (course_from_right ps h u v lu lv ne lt).1, ap (depth_of ps) is)
-
     right_split : course_from ps u v ≡ course_from ps u up ++ v ∷ []
     right_split = (course_from_right ps h u v lu lv ne lt).0 ∙ sym (ap (λ (k : ℕ). course_from ps u k ++ v ∷ []) is)
 
-    pub right_room : length (course_from ps u v) ≡ length (course_from ps u up) + 1
-    right_room = ap length right_split ∙ length-append (course_from ps u up) (v ∷ [])
+    right_long : length (course_from ps u v) ≡ length (course_from ps u up) + 1
+    right_long = ap length right_split ∙ length-append (course_from ps u up) (v ∷ [])
 
-    pub right_listed : (old mid new : List Label) (l : Label) → l ≡ station_label ps v → mid ≡ old ++ course_named ps u up → new ≡ mid ++ l ∷ [] → new ≡ old ++ course_named ps u v
-    right_listed old mid new l named listed pushed =
+    pub right_turn : (t : ℕ) → depth_of ps u + depth_of ps v ≡ t → (depth_of ps u + depth_of ps up < t) × ((u < length ps) × ((up < length ps) × (length old + length (course_from ps u up) ≤ 1024)))
+    right_turn t e = (omega (arith, (course_from_right ps h u v lu lv ne lt).1, ap (depth_of ps) is), (lu, (omega (arith, h.inside v lv, is), omega (arith, right_long))))
+
+    pub right_push : (mid : List Label) → mid ≡ old ++ course_named ps u up → length mid < 1024
+    right_push mid listed = omega (arith, right_long, ap length listed, length-append old (course_named ps u up), length-map (course_from ps u up) (station_label ps))
+
+    pub right_listed : (mid new : List Label) (l : Label) → l ≡ station_label ps v → mid ≡ old ++ course_named ps u up → new ≡ mid ++ l ∷ [] → new ≡ old ++ course_named ps u v
+    right_listed mid new l named listed pushed =
         pushed ∙ ap (λ (k : Label). mid ++ k ∷ []) named ∙ ap (λ (xs : List Label). xs ++ station_label ps v ∷ []) listed ∙ append_assoc old (course_named ps u up) (station_label ps v ∷ [])
         ∙ sym (ap (λ (xs : List Label). old ++ xs) (ap (map (station_label ps)) right_split ∙ map-append (station_label ps) (course_from ps u up) (v ∷ [])))
 
   -- it is not: the first one is listed first
-  module _ (up : ℕ) (is : up ≡ parent_of ps u) (ne : u ≡ v → ⊥) (le : depth_of ps v ≤ depth_of ps u) where
-    pub left_inside : up < length ps
-    left_inside = omega (arith, h.inside u lu, is)
+  module _ (ne : u ≡ v → ⊥) (le : depth_of ps v ≤ depth_of ps u) where
+    pub left_push : length old < 1024
+    left_push = omega (arith, ap length (course_from-left ps h u v lu lv ne le).0)
 
-    pub left_falls : (t : ℕ) → depth_of ps u + depth_of ps v ≡ t → depth_of ps up + depth_of ps v < t
-    left_falls t e = omega (arith, (course_from-left ps h u v lu lv ne le).1, ap (depth_of ps) is)
+    module _ (up : ℕ) (is : up ≡ parent_of ps u) where
+      left_split : course_from ps u v ≡ u ∷ course_from ps up v
+      left_split = (course_from-left ps h u v lu lv ne le).0 ∙ sym (ap (λ (k : ℕ). u ∷ course_from ps k v) is)
 
-    left_split : course_from ps u v ≡ u ∷ course_from ps up v
-    left_split = (course_from-left ps h u v lu lv ne le).0 ∙ sym (ap (λ (k : ℕ). u ∷ course_from ps k v) is)
+      pub left_turn : (t : ℕ) (mid : List Label) (l : Label) → depth_of ps u + depth_of ps v ≡ t → mid ≡ old ++ l ∷ [] → (depth_of ps up + depth_of ps v < t) × ((up < length ps) × ((v < length ps) × (length mid + length (course_from ps up v) ≤ 1024)))
+      left_turn t mid l e pushed = (
+        omega (arith, (course_from-left ps h u v lu lv ne le).1, ap (depth_of ps) is),
+        (omega (arith, h.inside u lu, is), (lv, omega (arith, ap length left_split, ap length pushed, length-append old (l ∷ [])))),
+      )
 
-    pub left_room : length (course_from ps u v) ≡ length (course_from ps up v) + 1
-    left_room = let e = ap length left_split in omega arith
-
-    pub left_listed : (old mid new : List Label) (l : Label) → l ≡ station_label ps u → mid ≡ old ++ l ∷ [] → new ≡ mid ++ course_named ps up v → new ≡ old ++ course_named ps u v
-    left_listed old mid new l named pushed listed =
-        listed ∙ ap (λ (xs : List Label). xs ++ course_named ps up v) (pushed ∙ ap (λ (k : Label). old ++ k ∷ []) named) ∙ append_assoc old (station_label ps u ∷ []) (course_named ps up v)
-        ∙ sym (ap (λ (xs : List ℕ). old ++ map (station_label ps) xs) left_split)
+      pub left_listed : (mid new : List Label) (l : Label) → l ≡ station_label ps u → mid ≡ old ++ l ∷ [] → new ≡ mid ++ course_named ps up v → new ≡ old ++ course_named ps u v
+      left_listed mid new l named pushed listed =
+          listed ∙ ap (λ (xs : List Label). xs ++ course_named ps up v) (pushed ∙ ap (λ (k : Label). old ++ k ∷ []) named) ∙ append_assoc old (station_label ps u ∷ []) (course_named ps up v)
+          ∙ sym (ap (λ (xs : List ℕ). old ++ map (station_label ps) xs) left_split)
 
 module _ (ps : List Station) (h : Canonical ps) (at : ℕ) (l : at < length ps) where
   -- a station is listed, and then its branches
