@@ -1,22 +1,18 @@
 -- What an answer by indices says of labels.
-use Rattle.std.proofs.Common.{◌≡◌, ℕ, ◌+◌, ◌-◌, ◌<◌, ◌≤◌, Bool, false, eqb, List, [], ◌∷◌, map, length, take, drop, is_some, Some, None, Decides, Option, sym, refl, ap, ◌∙◌, subst, ⊎_elim, true≢false, arith}
+use Rattle.std.proofs.Common.{◌≡◌, ℕ, ◌+◌, ◌-◌, ◌<◌, ◌≤◌, false, eqb, List, [], ◌∷◌, map, length, take, drop, Some, None, Decides, Option, sym, ap, ◌∙◌, subst, ⊎_elim, true≢false, arith}
 use Rattle.std.proofs.lemmas.Bool.{cases_lt, eqb-true, eq-eqb}
 use Rattle.label.specs.declared.label.Label.{Label}
 use Rattle.tree.specs.declared.Station.{Station}
 use Rattle.tree.specs.Trees.{climb, AboveAt, MeetAt}
 use Rattle.tree.specs.Ways.{Way}
 use Rattle.tree.specs.Stations.{Canonical, station_label, parent_of, depth_of, rooted}
-use Rattle.tree.specs.Caves.{Holds, Leg, root_label, Root, Above, Depth, Deepest, AtDepth}
+use Rattle.tree.specs.Caves.{Holds, Leg, Root, Above, Depth, Deepest, AtDepth}
 use Rattle.tree.specs.Courses.{course_from}
-use Rattle.tree.specs.Index.{Found}
-use Rattle.tree.specs.Walks.{walk_from, walk_labels, first_place}
-use Rattle.tree.specs.WalkLaws.{FirstPlace}
 use Rattle.tree.proofs.Climbs.{depth_pos}
 use Rattle.tree.proofs.Courses.{course_way, course_short}
 use Rattle.std.proofs.Math.ListN.{length-map}
 use Rattle.tree.proofs.Meaning.{root_is, above_held, above_is, depth_is, deepest_is, at_depth_is}
-use Rattle.tree.proofs.Walking.{first_place_lem}
-use Rattle.ways.specs.Calls.{WayTold, CountsAs}
+use Rattle.ways.specs.Calls.{WayTold}
 
 -- station i has the label a
 abbrev pub At : List Station → Label → ℕ → Type 0

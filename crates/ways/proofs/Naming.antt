@@ -1,5 +1,5 @@
 -- The way and the walk as lists of labels, one turn at a time.
-use Rattle.std.proofs.Common.{◌≡◌, ℕ, ◌+◌, ◌<◌, ◌≤◌, List, [], ◌∷◌, ◌++◌, map, length, sym, ap, ◌∙◌, append_assoc, append-nil, arith, length-append}
+use Rattle.std.proofs.Common.{◌≡◌, ℕ, ◌+◌, ◌-◌, ◌*◌, ◌<◌, ◌≤◌, List, [], ◌∷◌, ◌++◌, map, length, sym, ap, ◌∙◌, append_assoc, append-nil, arith, length-append}
 use Rattle.std.proofs.lemmas.List.{map-append}
 use lib.ListN.{length-map}
 use Rattle.label.specs.declared.label.Label.{Label}
@@ -7,7 +7,8 @@ use Rattle.tree.specs.declared.Station.{Station}
 use Rattle.tree.specs.Courses.{course_from}
 use Rattle.tree.specs.Stations.{station_label, parent_of, depth_of, Canonical}
 use Rattle.tree.specs.Walks.{walk_from, tour_from}
-use Rattle.tree.proofs.Turns.{walk_step, tour_left, tour_start, tour_yes, tour_no, tour_end, tour_length}
+use Rattle.tree.proofs.Sizes.{below}
+use Rattle.tree.proofs.Turns.{walk_step, walk_length, level_falls, level_same, tour_left, tour_start, tour_yes, tour_no, tour_end, tour_length}
 use Rattle.tree.proofs.Courses.{course_met, course_from_right, course_from-left}
 
 -- the labels of a course
@@ -62,6 +63,13 @@ module _ (ps : List Station) (h : Canonical ps) (u v : ℕ) (lu : u < length ps)
           ∙ sym (ap (λ (xs : List ℕ). old ++ map (station_label ps) xs) left_split)
 
 module _ (ps : List Station) (h : Canonical ps) (at : ℕ) (l : at < length ps) where
+  pub walk_push : (old : List Label) → length old + length (walk_from ps at) ≤ 2047 → length old < 2047
+  walk_push old room = omega (arith, walk_length ps h at l)
+
+  pub walk_turn : (old mid : List Label) (a : Label) (t : ℕ) → length old + length (walk_from ps at) ≤ 2047 → mid ≡ old ++ a ∷ [] → 2 * below (length ps) (parent_of ps) (depth_of ps) at ≡ t
+      → (2 * below (length ps) (parent_of ps) (depth_of ps) at - 1 < t) × ((at < length ps) × (length mid + length (tour_from ps at) ≤ 2047))
+  walk_turn old mid a t room pushed e = (level_same ps h at t l e, (l, omega (arith, walk_length ps h at l, ap length pushed, length-append old (a ∷ []))))
+
   -- a station is listed, and then its branches
   pub walk_listed : (old mid new : List Label) (a : Label) → a ≡ station_label ps at → mid ≡ old ++ a ∷ [] → new ≡ mid ++ map (station_label ps) (tour_from ps at) → new ≡ old ++ map (station_label ps) (walk_from ps at)
   walk_listed old mid new a named pushed listed =
@@ -75,22 +83,32 @@ StillGives ps at j walk old = walk ++ map (station_label ps) (tour_left ps at j)
 pub branches_start : (ps : List Station) (at : ℕ) (old : List Label) → StillGives ps at 1 old old
 branches_start ps at old = ap (λ (xs : List ℕ). old ++ map (station_label ps) xs) (tour_start ps at)
 
-module _ (ps : List Station) (at j : ℕ) (walk old : List Label) (gives : StillGives ps at j walk old) where
-  module _ (l : j < length ps) (up : parent_of ps j ≡ at) where
-    pub branch_room : length walk + (length (walk_from ps j) + 1) ≤ length old + length (tour_from ps at)
-    branch_room =
-        omega (arith, simp (length-append, length-map) at (ap length gives), tour_length ps at j l up)
+-- one turn over the branches of a station: that at place n + 1, whose parent is read
+module _ (ps : List Station) (at n j parent from : ℕ) (turn : (n + 1 < length ps) × (j ≡ n + 1) × (parent ≡ parent_of ps (n + 1))) (is : from ≡ parent) (walk old : List Label) (gives : StillGives ps at (n + 1) walk old) where
+  module _ (same : from ≡ at) where
+    up : parent_of ps (n + 1) ≡ at
+    up = sym turn.2 ∙ sym is ∙ same
+
+    room_left : length walk + (length (walk_from ps (n + 1)) + 1) ≤ length old + length (tour_from ps at)
+    room_left = omega (arith, simp (length-append, length-map) at (ap length gives), tour_length ps at (n + 1) turn.0 up)
+
+    pub branch_turn : (h : Canonical ps) → at < length ps → length old + length (tour_from ps at) ≤ 2047 → (t : ℕ) → 2 * below (length ps) (parent_of ps) (depth_of ps) at - 1 ≡ t
+        → (2 * below (length ps) (parent_of ps) (depth_of ps) j < t) × ((j < length ps) × (length walk + length (walk_from ps j) ≤ 2047))
+    branch_turn h known room t e = rw turn.1 (level_falls ps h at (n + 1) t known (omega arith) turn.0 up e, (turn.0, omega (arith, room_left)))
+
+    pub branch_push : length old + length (tour_from ps at) ≤ 2047 → (mid : List Label) → mid ≡ walk ++ map (station_label ps) (walk_from ps j) → length mid < 2047
+    branch_push room mid listed = rw (listed, turn.1) (simp (length-append, length-map) (omega (arith, room_left)))
 
     -- a branch is listed, and the station again
-    pub branch_listed : (mid new : List Label) (a : Label) → mid ≡ walk ++ map (station_label ps) (walk_from ps j) → a ≡ station_label ps at → new ≡ mid ++ a ∷ [] → StillGives ps at (j + 1) new old
+    pub branch_listed : (mid new : List Label) (a : Label) → mid ≡ walk ++ map (station_label ps) (walk_from ps j) → a ≡ station_label ps at → new ≡ mid ++ a ∷ [] → StillGives ps at (n + 1 + 1) new old
     branch_listed mid new a listed named pushed =
-        let step : map (station_label ps) (tour_left ps at j) ≡ (map (station_label ps) (walk_from ps j) ++ station_label ps at ∷ []) ++ map (station_label ps) (tour_left ps at (j + 1)) =
-        ap (map (station_label ps)) (tour_yes ps at j l up) ∙ map-append (station_label ps) (walk_from ps j ++ at ∷ []) (tour_left ps at (j + 1))
-        ∙ ap (λ (xs : List Label). xs ++ map (station_label ps) (tour_left ps at (j + 1))) (map-append (station_label ps) (walk_from ps j) (at ∷ [])) in
-        rw (pushed, listed, named) (simp append_assoc (simp append_assoc at (sym (ap (λ (xs : List Label). walk ++ xs) step) ∙ gives)))
+        let step : map (station_label ps) (tour_left ps at (n + 1)) ≡ (map (station_label ps) (walk_from ps (n + 1)) ++ station_label ps at ∷ []) ++ map (station_label ps) (tour_left ps at (n + 1 + 1)) =
+        ap (map (station_label ps)) (tour_yes ps at (n + 1) turn.0 up) ∙ map-append (station_label ps) (walk_from ps (n + 1) ++ at ∷ []) (tour_left ps at (n + 1 + 1))
+        ∙ ap (λ (xs : List Label). xs ++ map (station_label ps) (tour_left ps at (n + 1 + 1))) (map-append (station_label ps) (walk_from ps (n + 1)) (at ∷ [])) in
+        rw (pushed, listed, named, turn.1) (simp append_assoc (simp append_assoc at (sym (ap (λ (xs : List Label). walk ++ xs) step) ∙ gives)))
 
-  pub branch_skipped : j < length ps → (parent_of ps j ≡ at → ⊥) → StillGives ps at (j + 1) walk old
-  branch_skipped l ne = sym (ap (λ (xs : List ℕ). walk ++ map (station_label ps) xs) (tour_no ps at j l ne)) ∙ gives
+  pub branch_skipped : (from ≡ at → ⊥) → StillGives ps at (n + 1 + 1) walk old
+  branch_skipped ne = sym (ap (λ (xs : List ℕ). walk ++ map (station_label ps) xs) (tour_no ps at (n + 1) turn.0 (λ e. ne (is ∙ turn.2 ∙ e)))) ∙ gives
 
-  pub branches_end : length ps ≤ j → walk ≡ old ++ map (station_label ps) (tour_from ps at)
-  branches_end le = sym (append-nil walk) ∙ sym (ap (λ (xs : List ℕ). walk ++ map (station_label ps) xs) (tour_end ps at j le)) ∙ gives
+pub branches_end : (ps : List Station) (at j : ℕ) (walk old : List Label) → StillGives ps at j walk old → length ps ≤ j → walk ≡ old ++ map (station_label ps) (tour_from ps at)
+branches_end ps at j walk old gives le = sym (append-nil walk) ∙ sym (ap (λ (xs : List ℕ). walk ++ map (station_label ps) xs) (tour_end ps at j le)) ∙ gives
