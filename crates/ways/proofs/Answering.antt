@@ -1,28 +1,22 @@
 -- What an answer by indices says of labels.
-use Rattle.std.proofs.Common.{◌≡◌, ℕ, ◌-◌, ◌<◌, ◌≤◌, Bool, false, eqb, List, ◌∷◌, map, length, take, drop, is_some, Some, None, Decides, Option, sym, refl, ap, ◌∙◌, subst, ⊎_elim, true≢false, arith}
+use Rattle.std.proofs.Common.{◌≡◌, ℕ, ◌+◌, ◌-◌, ◌<◌, ◌≤◌, false, eqb, List, [], ◌∷◌, map, length, take, drop, Some, None, Decides, Option, sym, ap, ◌∙◌, subst, ⊎_elim, true≢false, arith}
 use Rattle.std.proofs.lemmas.Bool.{cases_lt, eqb-true, eq-eqb}
 use Rattle.label.specs.declared.label.Label.{Label}
 use Rattle.tree.specs.declared.Station.{Station}
 use Rattle.tree.specs.Trees.{climb, AboveAt, MeetAt}
 use Rattle.tree.specs.Ways.{Way}
-use Rattle.tree.specs.Stations.{Canonical, station_label, parent_of, depth_of}
-use Rattle.tree.specs.Caves.{Holds, Leg, root_label, Above, Depth, Deepest, AtDepth}
+use Rattle.tree.specs.Stations.{Canonical, station_label, parent_of, depth_of, rooted}
+use Rattle.tree.specs.Caves.{Holds, Leg, Root, Above, Depth, Deepest, AtDepth}
 use Rattle.tree.specs.Courses.{course_from}
-use Rattle.tree.specs.Index.{Found}
-use Rattle.tree.specs.Walks.{walk_from, walk_labels, first_place}
-use Rattle.tree.specs.WalkLaws.{FirstPlace}
-use Rattle.tree.proofs.Courses.{course_way}
-use Rattle.tree.proofs.Meaning.{above_held, above_is, depth_is, deepest_is, at_depth_is}
-use Rattle.tree.proofs.Walking.{first_place_lem}
-use Rattle.ways.specs.Calls.{WayTold, CountsAs}
+use Rattle.tree.proofs.Climbs.{depth_pos}
+use Rattle.tree.proofs.Courses.{course_way, course_short}
+use Rattle.std.proofs.Math.ListN.{length-map}
+use Rattle.tree.proofs.Meaning.{root_is, above_held, above_is, depth_is, deepest_is, at_depth_is}
+use Rattle.ways.specs.Calls.{WayTold}
 
 -- station i has the label a
 abbrev pub At : List Station → Label → ℕ → Type 0
 At ps a i = (i < length ps) × (station_label ps i ≡ a)
-
-pub held_decides : (ps : List Station) (a : Label) (o : Option ℕ) (r : Bool) → r ≡ is_some o → Found ps a o → Decides r (Holds ps a)
-held_decides ps a (Some i) r e f = ((λ _. (i, f)), (λ _. e))
-held_decides ps a None r e f = ((λ t. absurd (true≢false (sym t ∙ e))), (λ h. absurd (f h)))
 
 some_one : (m n : ℕ) → ◌≡◌ {A = Option ℕ} (Some m) (Some n) → m ≡ n
 some_one m n e = cc
@@ -31,11 +25,18 @@ some_none : (n : ℕ) → ◌≡◌ {A = Option ℕ} (Some n) None → ⊥
 some_none n e = let z : ◌≡◌ {A = ℕ} 0 1 = cc in omega arith
 
 module _ (ps : List Station) (h : Canonical ps) where
+  pub told_root : (l : Label) → l ≡ station_label ps 0 → Root ps l
+  told_root l e = subst (λ (z : Label). Root ps z) (sym e) (root_is ps h)
+
+  pub depth_some : (u d : ℕ) → u < length ps → d ≡ depth_of ps u → 0 < d
+  depth_some u d l e = omega (arith, depth_pos (rooted ps h) u l)
+
   pub told_depth : (a : Label) (i d : ℕ) → At ps a i → d ≡ depth_of ps i → Depth ps a d
   told_depth a i d f e = subst (Depth ps a) (sym e) (subst (λ (z : Label). Depth ps z (depth_of ps i)) f.1 (depth_is ps h i f.0))
 
-  pub told_above : (a b : Label) (u v s : ℕ) → At ps a u → At ps b v → s ≡ climb (parent_of ps) (depth_of ps v - depth_of ps u) v → Decides (eqb s u) (Above ps a b)
-  told_above a b u v s fu fv e =
+  pub told_above : (a b : Label) (u v s d : ℕ) → At ps a u → At ps b v → d ≡ depth_of ps u → s ≡ climb (parent_of ps) (depth_of ps v - d) v → Decides (eqb s u) (Above ps a b)
+  told_above a b u v s d fu fv level value =
+      let e : s ≡ climb (parent_of ps) (depth_of ps v - depth_of ps u) v = value ∙ ap (λ (k : ℕ). climb (parent_of ps) (depth_of ps v - k) v) level in
       let here : Above ps a b → AboveAt (parent_of ps) (depth_of ps) u v = λ o.
       (above_is ps h u v fu.0 fv.0).1 (subst (λ (z : Label). Above ps z (station_label ps v)) (sym fu.1) (subst (λ (z : Label). Above ps a z) (sym fv.1) o)) in (
         (λ t.
@@ -60,45 +61,22 @@ module _ (ps : List Station) (h : Canonical ps) where
       subst (λ (z : Label). Deepest ps z a b) (sym e)
       (subst (λ (z : Label). Deepest ps (station_label ps m) z b) fu.1 (subst (λ (z : Label). Deepest ps (station_label ps m) (station_label ps u) z) fv.1 (deepest_is ps h m u v fu.0 fv.0 t)))
 
-  pub told_at_depth : (a l : Label) (v s k : ℕ) → At ps a v → 0 < k → s ≡ climb (parent_of ps) (depth_of ps v - k) v → l ≡ station_label ps s → AtDepth ps a k l
-  told_at_depth a l v s k f pos e el =
-      subst (λ (z : Label). AtDepth ps a k z) (sym (el ∙ ap (station_label ps) e)) (subst (λ (z : Label). AtDepth ps z k (station_label ps (climb (parent_of ps) (depth_of ps v - k) v))) f.1 (at_depth_is ps h v k f.0 pos))
+  pub told_at_depth : (a l : Label) (v s k : ℕ) → At ps a v → (k ≡ 0 → ⊥) → s ≡ climb (parent_of ps) (depth_of ps v - k) v → l ≡ station_label ps s → AtDepth ps a k l
+  told_at_depth a l v s k f ne e el =
+      subst (λ (z : Label). AtDepth ps a k z) (sym (el ∙ ap (station_label ps) e)) (subst (λ (z : Label). AtDepth ps z k (station_label ps (climb (parent_of ps) (depth_of ps v - k) v))) f.1 (at_depth_is ps h v k f.0 (omega arith)))
 
-  pub told_way : (a b : Label) (before after : List Label) (u v n : ℕ) → At ps a u → At ps b v → take n after ≡ map (station_label ps) (course_from ps u v) → drop n after ≡ drop n before → n ≤ 1024 → WayTold ps a b before after (Some n)
-  told_way a b before after u v n fu fv w d le =
+  pub course_fits : (u v : ℕ) (xs : List Label) → u < length ps → v < length ps → xs ≡ [] → length xs + length (course_from ps u v) ≤ 1024
+  course_fits u v xs lu lv e = omega (arith, ap length e, course_short ps h u v lu lv, h.few)
+
+  pub told_way : (a b : Label) (before after course : List Label) (u v n : ℕ) → At ps a u → At ps b v → course ≡ map (station_label ps) (course_from ps u v) → n ≡ length course → take n after ≡ course → drop n after ≡ drop n before → WayTold ps a b before after (Some n)
+  told_way a b before after course u v n fu fv listed count w d =
       let t = course_way ps h u v fu.0 fv.0 in
+      let le : n ≤ 1024 = omega (arith, count, ap length listed, length-map (course_from ps u v) (station_label ps), course_short ps h u v fu.0 fv.0, h.few) in
       record {
         written = λ m e. subst (λ (k : ℕ). (xs : List Label) × ((take k after ≡ a ∷ xs) × Way (Leg ps) a xs b)) (some_one n m e)
-            (t.0, (w ∙ t.1.0 ∙ ap (λ (z : Label). z ∷ t.0) fu.1, subst (λ (z : Label). Way (Leg ps) z t.0 b) fu.1 (subst (λ (z : Label). Way (Leg ps) (station_label ps u) t.0 z) fv.1 t.1.1)));
+            (t.0, (w ∙ listed ∙ t.1.0 ∙ ap (λ (z : Label). z ∷ t.0) fu.1, subst (λ (z : Label). Way (Leg ps) z t.0 b) fu.1 (subst (λ (z : Label). Way (Leg ps) (station_label ps u) t.0 z) fv.1 t.1.1)));
         behind = λ m e. subst (λ (k : ℕ). drop k after ≡ drop k before) (some_one n m e) d;
         within = λ m e. subst (λ (k : ℕ). k ≤ 1024) (some_one n m e) le;
         lacking = λ e. absurd (some_none n e);
         untouched = λ e. absurd (some_none n e);
       }
-
-  pub told_no_way : (a b : Label) (out : List Label) → (Holds ps a → Holds ps b → ⊥) → WayTold ps a b out out None
-  told_no_way a b out f =
-      record {
-        written = λ m e. absurd (some_none m (sym e));
-        behind = λ m e. refl;
-        within = λ m e. absurd (some_none m (sym e));
-        lacking = λ _. f;
-        untouched = λ _. refl;
-      }
-
-  pub told_place : (a : Label) (o : Option ℕ) (i r : ℕ) → Found ps a o → ((j : ℕ) → o ≡ Some j → i ≡ j) → (o ≡ None → i ≡ 0) → r ≡ first_place i (walk_from ps 0) → (b : Label) → CountsAs ps a b → FirstPlace (walk_labels ps) b r
-  told_place a (Some j) i r f some none e b counts =
-      let same : i ≡ j = some j refl in
-      ⊎_elim
-      (λ (k : Holds ps a × (b ≡ a)).
-      subst (λ (z : ℕ). FirstPlace (walk_labels ps) b z) (sym (e ∙ ap (λ (z : ℕ). first_place z (walk_from ps 0)) same))
-      (subst (λ (z : Label). FirstPlace (walk_labels ps) z (first_place j (walk_from ps 0))) (f.1 ∙ sym k.1) (first_place_lem ps h j f.0)))
-      (λ (k : (Holds ps a → ⊥) × (b ≡ root_label ps)). absurd (k.0 (j, f)))
-      counts
-  told_place a None i r f some none e b counts =
-      ⊎_elim
-      (λ (k : Holds ps a × (b ≡ a)). absurd (f k.0))
-      (λ (k : (Holds ps a → ⊥) × (b ≡ root_label ps)).
-      subst (λ (z : ℕ). FirstPlace (walk_labels ps) b z) (sym (e ∙ ap (λ (z : ℕ). first_place z (walk_from ps 0)) (none refl)))
-      (subst (λ (z : Label). FirstPlace (walk_labels ps) z (first_place 0 (walk_from ps 0))) (sym k.1) (first_place_lem ps h 0 h.some)))
-      counts

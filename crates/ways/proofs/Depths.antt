@@ -1,8 +1,8 @@
 -- The greatest depth among the stations of a plan.
-use Rattle.std.proofs.Common.{◌≡◌, ℕ, zero, suc, ◌<◌, ◌≤◌, ◌⊎◌, List, [], ◌∷◌, length, max, fold, sym, refl, ap, ◌∙◌, subst, inl, inr, ⊎_elim, arith}
+use Rattle.std.proofs.Common.{◌≡◌, ℕ, zero, suc, ◌<◌, ◌≤◌, ◌⊎◌, List, [], ◌∷◌, length, max, fold, sym, refl, subst, inl, inr, ⊎_elim, arith}
 use Rattle.std.proofs.lemmas.Bool.{cases_lt}
 use Rattle.tree.specs.declared.Station.{Station}
-use Rattle.tree.specs.Stations.{depth_of, Canonical, rooted}
+use Rattle.tree.specs.Stations.{depth_of, Canonical}
 use Rattle.tree.specs.Caves.{Height}
 use Rattle.tree.proofs.Meaning.{height_is}
 

@@ -1,7 +1,8 @@
 -- What a binary search by keys finds among the stations of a plan.
-use Rattle.std.proofs.Common.{◌≡◌, ℕ, ◌<◌, ◌≤◌, List, length, ◌⊎◌, ⊎_elim, ap, get_or, Some, None, Option, Result, Ok, Err, sym, subst, arith}
+use Rattle.std.proofs.Common.{◌≡◌, ℕ, ◌<◌, ◌≤◌, List, length, ◌⊎◌, ⊎_elim, ap, Option, Some, None, Result, Ok, Err, sym, subst, arith}
 use Rattle.std.specs.List.Sorted.{IsSearchInRange, IsBinarySearchResult, IsNonDecreasingBy}
 use Rattle.std.specs.Ordering.{nat_cmp, ordering_index}
+use Rattle.std.specs.Option.{option_zip}
 use Rattle.std.specs.Result.{result_ok}
 use Rattle.std.proofs.lemmas.Cmp.{ranked}
 use Rattle.std.proofs.lemmas.List.Sorted.{IsNonDecreasingBy-from_default}
@@ -13,6 +14,7 @@ use Rattle.label.proofs.Keys.{same_key}
 use Rattle.tree.specs.declared.Station.{Station}
 use Rattle.tree.specs.Stations.{nowhere, station_label, Ascending}
 use Rattle.tree.specs.Index.{Found}
+use Rattle.ways.specs.Calls.{BothFound}
 
 module _ (ps : List Station) (ascending : Ascending ps) (a : Label) where
   -- the comparisons with a's key rise along the list
@@ -33,3 +35,8 @@ module _ (ps : List Station) (ascending : Ascending ps) (a : Label) where
           (λ (lt : k < i). let less : key_of (station_label ps k) < key_of a = ranked _ _ _ (sym ((e rising).0 k nowhere (omega arith) lt)) in omega arith)
           (λ (le : i ≤ k). let more : key_of a < key_of (station_label ps k) = ranked _ _ _ (sym ((e rising).1 k nowhere le lk)) in omega arith)
           side
+
+pub both_found : (ps : List Station) (a b : Label) (u v : Option ℕ) (r : Option (ℕ × ℕ)) → r ≡ option_zip u v → Found ps a u → Found ps b v → BothFound ps a b r
+both_found ps a b (Some u) (Some v) r e f g = subst (BothFound ps a b) (sym e) (f, g)
+both_found ps a b (Some u) None r e f g = subst (BothFound ps a b) (sym e) (λ _ k. g k)
+both_found ps a b None v r e f g = subst (BothFound ps a b) (sym e) (λ k _. f k)

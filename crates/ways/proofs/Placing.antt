@@ -1,5 +1,5 @@
 -- What entries and places of the walk say of labels.
-use Rattle.std.proofs.Common.{◌≡◌, ℕ, zero, suc, ◌+◌, ◌-◌, ◌<◌, ◌≤◌, List, [], ◌∷◌, length, get_or, Some, None, Option, MatchOption, unwrap_or, slice_get, sym, refl, ap, ◌∙◌, subst, ⊎_elim, arith}
+use Rattle.std.proofs.Common.{◌≡◌, ℕ, suc, ◌+◌, ◌-◌, ◌*◌, ◌<◌, ◌≤◌, List, [], ◌∷◌, length, get_or, Some, None, Option, MatchOption, unwrap_or, slice_get, sym, refl, ap, ◌∙◌, subst, ⊎_elim, arith}
 use Rattle.std.specs.Option.{SomeIff}
 use Rattle.std.specs.List.{HoldsAt, AllWithin}
 use Rattle.std.proofs.lemmas.Option.{unwrap_or-slice_get}
@@ -9,11 +9,11 @@ use Rattle.tree.specs.declared.Station.{Station}
 use Rattle.tree.specs.Stations.{Canonical}
 use Rattle.tree.specs.Caves.{Holds, root_label}
 use Rattle.tree.specs.Ways.{On}
-use Rattle.tree.specs.Walks.{walk_labels}
-use Rattle.tree.specs.WalkLaws.{FirstPlace}
+use Rattle.tree.specs.Walks.{walk_from, walk_labels}
+use Rattle.tree.specs.WalkLaws.{WalkLaws}
 use Rattle.tree.proofs.Turns.{walk_step}
-use Rattle.tree.proofs.Walking.{walk_laws}
-use Rattle.ways.specs.Calls.{CountsAs, Placed, entry_at}
+use Rattle.tree.proofs.Walking.{walk_long, walk_laws}
+use Rattle.ways.specs.Calls.{Placed, entry_at}
 
 -- what stands in a list has an index there
 on_index : {X : Type 0} (a d : X) (xs : List X) → On a xs → (k : ℕ) × ((k < length xs) × (get_or xs k d ≡ a))
@@ -27,6 +27,15 @@ on_index a d (x ∷ xs) o =
 module _ (ps : List Station) (h : Canonical ps) where
   pub walk_begins : (0 < length (walk_labels ps)) × ((d : Label) → get_or (walk_labels ps) 0 d ≡ root_label ps)
   walk_begins = rw (walk_step ps h 0 h.some) (omega arith, λ d. refl)
+
+  pub walk_fits : (xs : List Label) → xs ≡ [] → length xs + length (walk_from ps 0) ≤ 2047
+  walk_fits xs e = omega (arith, ap length e, walk_long ps h, h.few)
+
+  pub walk_told : (ws : List Label) → ws ≡ walk_labels ps → WalkLaws ps ws
+  walk_told ws e = subst (WalkLaws ps) (sym e) (walk_laws ps h)
+
+  pub walk_counted : (ws : List Label) (n : ℕ) → ws ≡ walk_labels ps → n ≡ length ws → n + 1 ≡ 2 * length ps
+  walk_counted ws n e count = omega (arith, count, ap length e, (walk_laws ps h).long)
 
   pub place_told : (a : Label) (o : Option ℕ) (r : ℕ)
       → MatchOption o (AllWithin (λ l. l ≡ a → ⊥) (walk_labels ps) 0 (length (walk_labels ps))) (λ i. (i < length (walk_labels ps)) × HoldsAt (λ l. l ≡ a) (walk_labels ps) i × AllWithin (λ l. l ≡ a → ⊥) (walk_labels ps) 0 i)

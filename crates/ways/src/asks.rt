@@ -35,14 +35,13 @@ impl Cave<'_> {
     pub fn height(&self) -> usize
         ensures { Height self.now.stations.now result }
     {
-        let depths = self
-            .stations
-            .iter()
-            .map(|station| usize::from(station.depth));
+        let stations = self.stations.iter();
+        let depths = stations.map(|station| usize::from(station.depth));
         depths.max().unwrap_or(0)
     }
 
     // Whether `upper` lies on the way from the root to `lower`.
+    #[tactic(auto, using(crate::proofs::Answering::depth_some))]
     pub fn is_above(&self, upper: Label, lower: Label) -> bool
         ensures { Decides result (Above self.now.stations.now upper lower) }
     {
@@ -73,6 +72,7 @@ impl Cave<'_> {
 
     // Writes the stations on the way between two, from the first to the second, and gives their count; what stands
     // behind them in the buffer is kept.
+    #[tactic(auto, using(tree::proofs::Named::one_way, crate::proofs::Answering::course_fits))]
     pub fn way(&self, from: Label, to: Label, out: &mut [Label; 1024]) -> Option<usize>
         ensures written { WayTold self.now.stations.now from to out.old out.new result }
         ensures only { OneWay }

@@ -5,8 +5,8 @@ ghost use Rattle.tree.specs.Stations.{Canonical, station_label, parent_of, depth
 use label::Label;
 use tree::Station;
 
-// A station is named by its index in the list, which is sorted by label: so its parent is an index too, and two plans
-// with the same stations and legs have the same list.
+// A station is named by its index in the list, also as a parent: a plan's memory is of fixed size and taken once, and the
+// list in label order makes two plans with the same stations and legs equal.
 #[derive(Clone, Copy)]
 pub struct Cave<'a> {
     pub(crate) stations: &'a [Station],
@@ -14,6 +14,7 @@ pub struct Cave<'a> {
 }
 
 impl<'a> Cave<'a> {
+    // The cave of these stations.
     pub fn new(stations: &'a [Station]) -> Cave<'a>
         requires { Canonical stations.now }
         ensures { result.stations.now ≡ stations.now }

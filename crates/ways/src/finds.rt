@@ -17,11 +17,10 @@ impl Cave<'_> {
     }
 
     // The indices of two stations, if both are there.
+    #[tactic(auto, using(crate::proofs::Finding::both_found))]
     pub(crate) fn find_both(&self, a: Label, b: Label) -> Option<(usize, usize)>
         ensures { BothFound self.now.stations.now a b result }
     {
-        let u = self.find(a)?;
-        let v = self.find(b)?;
-        Some((u, v))
+        self.find(a).zip(self.find(b))
     }
 }

@@ -1,10 +1,11 @@
-// Labels listed one after the other, at most N of them, without a heap.
+// A list of at most N labels, without a heap.
 ghost use Rattle.std.specs.Prelude.{◌≡◌, ◌<◌, ◌≤◌, List, [], ◌∷◌, ◌++◌, length, take, drop, slice_get};
 ghost use Rattle.label.specs.declared.label.Label.{Label};
 
 use label::Label;
 use std::marker::Model;
 
+// `ArrayVec` asks for a default label or an allocator, and there is neither.
 #[derive(Drop)]
 pub(crate) struct Listing<const N: usize> {
     labels: [Label; N],
@@ -21,7 +22,7 @@ impl<const N: usize> Model for Listing<N> {
 }
 
 impl<const N: usize> Listing<N> {
-    // An empty list. What is still unused of its memory is filled with the label that is passed.
+    // The empty list. The label that is passed fills the memory that is not used yet.
     pub(crate) fn new(filler: Label) -> Self
         ensures { result ≡ [] }
     {
@@ -45,6 +46,7 @@ impl<const N: usize> Listing<N> {
         &self.labels[..self.len]
     }
 
+    // The label at an index, counted from 0.
     pub(crate) fn get(&self, k: usize) -> Option<Label>
         ensures { result ≡ slice_get self.now k }
     {

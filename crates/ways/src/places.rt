@@ -9,6 +9,7 @@ use label::Label;
 
 impl Cave<'_> {
     // Writes the walk, and gives its length; what stands behind it in the buffer is kept.
+    #[tactic(auto, using(crate::proofs::Placing::walk_told, crate::proofs::Placing::walk_counted))]
     pub fn walk(&self, out: &mut [Label; 2047]) -> usize
         ensures count { result + 1 ≡ 2 * length self.now.stations.now }
         ensures written { take result out.new ≡ walk_labels self.now.stations.now }

@@ -34,6 +34,7 @@ impl Cave<'_> {
     }
 
     // The walk of the whole plan.
+    #[tactic(auto, using(crate::proofs::Placing::walk_fits))]
     pub(crate) fn whole_walk(&self) -> Listing<2047>
         ensures { result ≡ walk_labels self.now.stations.now }
     {

@@ -6,13 +6,21 @@ ghost use Rattle.plan.specs.Views.{stations_of};
 
 use super::Plan;
 use label::Label;
+use ways::Cave;
 
 impl Plan {
+    // Its stations, with what holds of every plan's stations.
+    pub(super) fn cave(&self) -> Cave<'_>
+        ensures { result.stations.now ≡ stations_of self.now }
+    {
+        Cave::new(self.stations())
+    }
+
     // Whether the plan has a station with this label.
     pub fn has(&self, label: Label) -> bool
         ensures { Decides result (Holds (stations_of self.now) label) }
     {
-        ways::has(self.stations(), label)
+        self.cave().has(label)
     }
 
     // The station with the lowest label.
@@ -20,35 +28,35 @@ impl Plan {
         ensures value { result ≡ root_label (stations_of self.now) }
         ensures lowest { Root (stations_of self.now) result }
     {
-        ways::root(self.stations())
+        self.cave().root()
     }
 
     // How many stations are on the way from the root to this one; nothing where the plan lacks it.
     pub fn depth(&self, label: Label) -> Option<usize>
         ensures { DepthTold (stations_of self.now) label result }
     {
-        ways::depth(self.stations(), label)
+        self.cave().depth(label)
     }
 
     // The greatest depth.
     pub fn height(&self) -> usize
         ensures { Height (stations_of self.now) result }
     {
-        ways::height(self.stations())
+        self.cave().height()
     }
 
     // Whether `upper` lies on the way from the root to `lower`.
     pub fn is_above(&self, upper: Label, lower: Label) -> bool
         ensures { Decides result (Above (stations_of self.now) upper lower) }
     {
-        ways::is_above(self.stations(), upper, lower)
+        self.cave().is_above(upper, lower)
     }
 
     // The deepest station above both; nothing where the plan lacks one of them.
     pub fn deepest_above(&self, a: Label, b: Label) -> Option<Label>
         ensures { DeepestTold (stations_of self.now) a b result }
     {
-        ways::deepest_above(self.stations(), a, b)
+        self.cave().deepest_above(a, b)
     }
 
     // The station at this depth on the way from the root to a station, or that station itself where the way is shorter;
@@ -56,7 +64,7 @@ impl Plan {
     pub fn at_depth(&self, label: Label, depth: usize) -> Option<Label>
         ensures { AtDepthTold (stations_of self.now) label depth result }
     {
-        ways::at_depth(self.stations(), label, depth)
+        self.cave().at_depth(label, depth)
     }
 
     // Writes the stations on the way between two, from the first to the second, and gives their count; what stands
@@ -65,6 +73,6 @@ impl Plan {
         ensures written { WayTold (stations_of self.now) from to out.old out.new result }
         ensures only { OneWay }
     {
-        ways::way(self.stations(), from, to, out)
+        self.cave().way(from, to, out)
     }
 }

@@ -16,20 +16,20 @@ impl Plan {
         ensures behind { drop result out.new ≡ drop result out.old }
         ensures laws { WalkLaws (stations_of self.now) (take result out.new) }
     {
-        ways::walk(self.stations(), out)
+        self.cave().walk(out)
     }
 
     // The first place of a station on the walk; one that the plan lacks counts as the root.
     pub fn first_place(&self, label: Label) -> usize
         ensures { Placed (stations_of self.now) label result }
     {
-        ways::first_place(self.stations(), label)
+        self.cave().first_place(label)
     }
 
     // The walk's entry at a place; the root where the walk has no such place.
     pub fn entry(&self, place: usize) -> Label
         ensures { result ≡ entry_at (stations_of self.now) place }
     {
-        ways::entry(self.stations(), place)
+        self.cave().entry(place)
     }
 }

@@ -1,4 +1,4 @@
-use Rattle.std.proofs.Common.{◌≡◌, ℕ, ◌+◌, MatchOption, refl, sym, ◌∙◌, true≢false, rules, tests}
+use Rattle.std.proofs.Common.{◌≡◌, ◌+◌, MatchOption, refl, sym, true≢false, rules, tests}
 use Rattle.std.proofs.lemmas.Iterator.{YieldsList-from_slice, IsFirst-from_position}
 use Rattle.label.proofs.Reading.{same_bytes}
 use Rattle.tree.specs.Walks.{walk_labels}
