@@ -1,4 +1,5 @@
 pub mod Converges
+pub mod CountsDown
 pub mod Gradeds
 pub mod Halvings
 pub mod GradedLaws
