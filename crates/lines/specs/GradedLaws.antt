@@ -19,6 +19,7 @@ use Rattle.grading.specs.declared.stage.Stage.TheVariants.{Sending, Relaying, Vo
 use Rattle.line.specs.Models.{span_of, line_after, Inside, Over, Counted, Short, Capped}
 use Rattle.lines.specs.CountsDown.{On, Parts, CountsDown, inside_by, over_by, counted_by}
 use Rattle.lines.specs.Gradeds.{graded_positions, averaged, carried_on, graded_frame, graded_after, thrice, graded_model}
+use Rattle.lines.specs.Lefts.{left_cases, left_less}
 use Rattle.lines.specs.declared.graded.Graded.{Graded}
 
 pub thrice_is : (r : ℕ) → thrice r ≡ 3 * r
@@ -48,30 +49,9 @@ on_crew : (span : Position) (g : Grading Position) (b : Bool) → (carried_on sp
 on_crew span g true = refl
 on_crew span g false = refl
 
--- one round
-after_crew : (s : Graded) (box : Box) (l : ℕ) → (graded_after s box l).grading.crew ≡ s.grading.crew
-after_crew s box zero = refl
-after_crew s box (suc l) =
-    on_crew s.span (after position_coding s.grading box) (over (after position_coding s.grading box).stage) ∙ grading_crew s.grading box s.grading.stage
-
-after_span : (s : Graded) (box : Box) (l : ℕ) → (graded_after s box l).span ≡ s.span
-after_span s box zero = refl
-after_span s box (suc l) = refl
-
-after-left : (s : Graded) (box : Box) (l : ℕ) → s.left ≡ l → (graded_after s box l).left ≡ l - 1
-after-left s box zero e = e
-after-left s box (suc l) e = omega arith
-
 on_own : (span : Position) (g : Grading Position) (b : Bool) → 1 ≤ number_of span → On span g.own → On span (carried_on span g b).own
 on_own span g true some h = (omega arith, omega (arith, (averaged_in span g some).1))
 on_own span g false some h = h
-
-after_own : (s : Graded) (box : Box) (l : ℕ) → 1 ≤ number_of s.span → On s.span s.grading.own → On s.span (graded_after s box l).grading.own
-after_own s box zero some h = h
-after_own s box (suc l) some h =
-    let g = after position_coding s.grading box in
-    let e = grading_own s.grading box s.grading.stage in
-    on_own s.span g (over g.stage) some (omega (arith, h.0, ap number_of e), omega (arith, h.1, ap number_of e))
 
 abbrev parts : Parts Graded
 parts = record {
@@ -88,10 +68,15 @@ counts = record {
   begun_span = λ crew span position. refl;
   begun_own = λ crew span position. refl;
   begun_left = λ crew span position. refl;
-  keeps_crew = λ s b. after_crew s b s.left;
-  keeps_span = λ s b. after_span s b s.left;
-  one_less = λ s b. after-left s b s.left refl;
-  stays_on = λ s b some h. after_own s b s.left some h;
+  keeps_crew = λ s b. left_cases (λ (x : Graded). x.grading.crew ≡ s.grading.crew) s _ s.left refl
+      (λ l. let g = after position_coding s.grading b in on_crew s.span g (over g.stage) ∙ grading_crew s.grading b s.grading.stage);
+  keeps_span = λ s b. left_cases (λ (x : Graded). x.span ≡ s.span) s _ s.left refl (λ l. refl);
+  one_less = λ s b. left_less (λ (x : Graded). x.left) s _ s.left refl (λ l. refl);
+  stays_on = λ s b some h. left_cases (λ (x : Graded). On s.span x.grading.own) s _ s.left h
+      (λ l.
+      let g = after position_coding s.grading b in
+      let e = grading_own s.grading b s.grading.stage in
+      on_own s.span g (over g.stage) some (omega (arith, h.0, ap number_of e), omega (arith, h.1, ap number_of e)));
   silent = λ s e. ap (graded_frame s) e;
   still = λ s b e. ap (graded_after s b) e;
   rounds = λ s. refl;
@@ -114,12 +99,8 @@ stage_short g Relaying = omega (arith, length-take (2 * g.crew.n) g.table, g.cre
 stage_short g Voting = omega (arith, length-take (2 * g.crew.n) g.table, g.crew.few)
 stage_short g Ended = omega arith
 
-short_in : (s : Graded) (l : ℕ) → length (graded_frame s l) ≤ 128
-short_in s zero = omega arith
-short_in s (suc l) = stage_short s.grading s.grading.stage
-
 pub is_short : Short graded_model
-is_short s = short_in s s.left
+is_short s = left_cases (λ f. length f ≤ 128) [] _ s.left (omega arith) (λ l. stage_short s.grading s.grading.stage)
 
 pub is_capped : Capped graded_model
 is_capped crew span =

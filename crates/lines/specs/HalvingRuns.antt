@@ -21,6 +21,7 @@ use Rattle.trim.proofs.Steps.{steps}
 use Rattle.line.specs.Models.{span_of, line_after, LineStart, Follow, Agreed, Inside, Agree, Over, Counted, Short, Capped}
 use Rattle.lines.specs.CountsDown.{On, Parts, CountsDown, crew_at, span_at, left_at, on_span, inside_by, over_by, counted_by}
 use Rattle.lines.specs.Halvings.{heard_positions, halving_frame, halved, halving_after, halving_model}
+use Rattle.lines.specs.Lefts.{left_cases, left_less}
 use Rattle.lines.specs.declared.halving.Halving.{Halving}
 use Rattle.lines.specs.Positions.{near_is, slot_of}
 
@@ -29,23 +30,6 @@ halved_in : (s : Halving) (box : Box) → 1 ≤ number_of s.span → (1 ≤ halv
 halved_in s box some =
     let size = length-map-range_with_len (λ i. slot_from position_coding 1 0 (from box i)) 0 s.crew.n in
     step_in (number_of s.span) s.crew.t (heard_positions s.crew.n box) some (omega (arith, size, s.crew.enough)) halving_step steps.halving_inside
-
--- one round, with so many left
-after_crew : (s : Halving) (box : Box) (l : ℕ) → (halving_after s box l).crew ≡ s.crew
-after_crew s box zero = refl
-after_crew s box (suc l) = refl
-
-after_span : (s : Halving) (box : Box) (l : ℕ) → (halving_after s box l).span ≡ s.span
-after_span s box zero = refl
-after_span s box (suc l) = refl
-
-after-left : (s : Halving) (box : Box) (l : ℕ) → s.left ≡ l → (halving_after s box l).left ≡ l - 1
-after-left s box zero e = e
-after-left s box (suc l) e = omega arith
-
-after_own : (s : Halving) (box : Box) (l : ℕ) → 1 ≤ number_of s.span → On s.span s.own → On s.span (halving_after s box l).own
-after_own s box zero some h = h
-after_own s box (suc l) some h = (omega arith, omega (arith, (halved_in s box some).1))
 
 abbrev halving_parts : Parts Halving
 halving_parts = record { crew = λ s. s.crew; span = λ s. s.span; own = λ s. s.own; left = λ s. s.left; in_all = λ n t span. halving_rounds span }
@@ -56,10 +40,10 @@ counts = record {
   begun_span = λ crew span position. refl;
   begun_own = λ crew span position. refl;
   begun_left = λ crew span position. refl;
-  keeps_crew = λ s b. after_crew s b s.left;
-  keeps_span = λ s b. after_span s b s.left;
-  one_less = λ s b. after-left s b s.left refl;
-  stays_on = λ s b some h. after_own s b s.left some h;
+  keeps_crew = λ s b. left_cases (λ (x : Halving). x.crew ≡ s.crew) s _ s.left refl (λ l. refl);
+  keeps_span = λ s b. left_cases (λ (x : Halving). x.span ≡ s.span) s _ s.left refl (λ l. refl);
+  one_less = λ s b. left_less (λ (x : Halving). x.left) s _ s.left refl (λ l. refl);
+  stays_on = λ s b some h. left_cases (λ (x : Halving). On s.span x.own) s _ s.left h (λ l. (omega arith, omega (arith, (halved_in s b some).1)));
   silent = λ s e. ap (halving_frame s) e;
   still = λ s b e. ap (halving_after s b) e;
   rounds = λ s. refl;
@@ -99,12 +83,8 @@ is_over = over_by halving_model halving_parts counts
 pub is_counted : Counted halving_model
 is_counted = counted_by halving_model halving_parts counts
 
-short_in : (s : Halving) (l : ℕ) → length (halving_frame s l) ≤ 128
-short_in s zero = omega arith
-short_in s (suc l) = omega arith
-
 pub is_short : Short halving_model
-is_short s = short_in s s.left
+is_short s = left_cases (λ f. length f ≤ 128) [] _ s.left (omega arith) (λ l. omega arith)
 
 pub is_capped : Capped halving_model
 is_capped crew span = omega (arith, worsts.halving_few (span_of span) (omega arith))

@@ -5,6 +5,7 @@ pub mod Halvings
 pub mod GradedLaws
 pub mod GradedRuns
 pub mod Iterated
+pub mod Lefts
 pub mod Positions
 pub mod Somewhere
 pub mod HalvingRuns
