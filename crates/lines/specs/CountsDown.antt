@@ -1,5 +1,5 @@
 -- Lines that count their rounds down: the laws that such lines have alike.
-use Rattle.std.specs.Prelude.{◌≡◌, ℕ, zero, suc, ◌-◌, ◌≤◌, [], refl}
+use Rattle.std.specs.Prelude.{◌≡◌, ℕ, zero, suc, ◌-◌, ◌≤◌, []}
 use Rattle.std.proofs.Common.{sym, ap, ◌∙◌, arith}
 use Rattle.slot.specs.Positions.{number_of, position_near}
 use Rattle.slot.specs.declared.position.Position.{Position}

@@ -1,11 +1,10 @@
 -- The graded line keeps the laws of a line that speak of one unit.
-use Rattle.std.specs.Prelude.{◌≡◌, ℕ, zero, suc, ◌-◌, ◌*◌, ◌≤◌, Bool, true, false, [], length, ◌≢◌, refl}
+use Rattle.std.specs.Prelude.{◌≡◌, ℕ, zero, suc, ◌*◌, ◌≤◌, Bool, true, false, [], length, refl}
 use Rattle.std.proofs.Common.{ap, ◌∙◌, arith, length-take}
 use Rattle.std.proofs.lemmas.List.FromFn.{length-map-range_with_len}
-use Rattle.slot.specs.Positions.{number_of, position_near, position_coding}
+use Rattle.slot.specs.Positions.{number_of, position_coding}
 use Rattle.slot.specs.declared.position.Position.{Position}
 use Rattle.wire.specs.Boxes.{Box}
-use Rattle.wire.specs.declared.crew.Crew.{Crew}
 use Rattle.trim.specs.Iterations.{graded_iterations}
 use Rattle.trim.specs.Trims.{graded_step}
 use Rattle.trim.proofs.Entries.{step_in}
@@ -16,7 +15,7 @@ use Rattle.grading.specs.Gradings.{frame_in, after_in, after, over, grade_at}
 use Rattle.grading.specs.declared.grading.Grading.{Grading}
 use Rattle.grading.specs.declared.stage.Stage.{Stage}
 use Rattle.grading.specs.declared.stage.Stage.TheVariants.{Sending, Relaying, Voting, Graded as Ended}
-use Rattle.line.specs.Models.{span_of, line_after, Inside, Over, Counted, Short, Capped}
+use Rattle.line.specs.Models.{span_of, Inside, Over, Counted, Short, Capped}
 use Rattle.lines.specs.CountsDown.{On, Parts, CountsDown, inside_by, over_by, counted_by}
 use Rattle.lines.specs.Gradeds.{graded_positions, averaged, carried_on, graded_frame, graded_after, thrice, graded_model}
 use Rattle.lines.specs.Lefts.{left_cases, left_less}
