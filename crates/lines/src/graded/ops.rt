@@ -2,10 +2,9 @@
 ghost use Rattle.std.specs.Prelude.{◌≡◌, take};
 ghost use Rattle.slot.specs.Positions.{number_of};
 ghost use Rattle.trim.specs.Iterations.{graded_iterations};
-ghost use Rattle.grading.specs.Gradings.{over};
 ghost use Rattle.line.specs.Models.{span_of};
 ghost use Rattle.lines.specs.Converges.{GradedConverges};
-ghost use Rattle.lines.specs.Gradeds.{graded_positions, next_iteration, carried_on, thrice, graded_model};
+ghost use Rattle.lines.specs.Gradeds.{graded_positions, next_iteration, thrice, graded_model};
 ghost use Rattle.lines.specs.GradedLaws.{is_inside, is_over, is_counted, is_short, is_capped};
 ghost use Rattle.lines.specs.GradedRuns.{they_agree};
 
@@ -24,27 +23,6 @@ fn graded_positions(grading: &Grading<Position>) -> [Option<Position>; 16]
     array::from_fn(|sender| grading.grade(sender).value())
 }
 
-// The next iteration, once a grading is over.
-fn next_iteration(span: Position, grading: &Grading<Position>) -> Grading<Position>
-    ensures { result ≡ next_iteration span grading.now }
-{
-    let crew = grading.crew();
-    let slots = graded_positions(grading);
-    let list = UnitList::new(&slots[..crew.units()], span.number(), crew.faulty());
-    grading.again(Position::nearest(list.graded_step()))
-}
-
-// The grading with which a line goes on.
-fn carried_on(span: Position, grading: Grading<Position>) -> Grading<Position>
-    ensures { result ≡ carried_on span grading (over grading.stage) }
-{
-    if grading.is_over() {
-        next_iteration(span, &grading)
-    } else {
-        grading
-    }
-}
-
 // How many rounds a line has in all.
 #[tactic(auto, using(crate::specs::GradedLaws::thrice_is))]
 fn rounds_for(crew: Crew, span: Position) -> usize
@@ -54,6 +32,16 @@ fn rounds_for(crew: Crew, span: Position) -> usize
 }
 
 impl Graded {
+    // The next iteration, once a grading is over.
+    fn next_iteration(&self) -> Grading<Position>
+        ensures { result ≡ next_iteration self.now.span self.now.grading }
+    {
+        let crew = self.grading.crew();
+        let slots = graded_positions(&self.grading);
+        let list = UnitList::new(&slots[..crew.units()], self.span.number(), crew.faulty());
+        self.grading.again(Position::nearest(list.graded_step()))
+    }
+
     // How many iterations a line has that is started with this crew and span.
     #[tactic(auto, using(crate::specs::GradedRuns::converges))]
     pub fn iterations(crew: Crew, span: usize) -> usize
@@ -112,7 +100,9 @@ impl Line for Graded {
     fn step(&mut self, inbox: &Inbox) {
         if self.left > 0 {
             self.grading.step(inbox);
-            self.grading = carried_on(self.span, self.grading);
+            if self.grading.is_over() {
+                self.grading = self.next_iteration();
+            }
             self.left -= 1;
         }
     }
