@@ -11,6 +11,7 @@ use Rattle.grading.specs.Grades.{grade_value}
 use Rattle.grading.specs.Gradings.{begun, frame_of, after, over, grade_at, distrusted_after}
 use Rattle.grading.specs.declared.grading.Grading.{Grading}
 use Rattle.line.specs.Models.{LineModel, span_of, position_in}
+use Rattle.lines.specs.Lefts.{while_left}
 use Rattle.lines.specs.declared.graded.Graded.{Graded}
 
 -- what a unit has of each sender after a grading: the value of grade 1 or 2, or nothing
@@ -32,17 +33,15 @@ carried_on span g false = g
 
 -- the frame of the next round, with so many rounds left: that of the grading, and past the last round nothing
 abbrev pub graded_frame : Graded → ℕ → List ℕ
-graded_frame s zero = []
-graded_frame s (suc l) = frame_of position_coding s.grading
+graded_frame s = while_left [] (λ l. frame_of position_coding s.grading)
 
 -- the state after a round, with so many rounds left before it; past the last round nothing changes
 abbrev pub graded_after : Graded → Box → ℕ → Graded
-graded_after s box zero = s
-graded_after s box (suc l) = record {
+graded_after s box = while_left s (λ l. record {
   span = s.span;
   grading = carried_on s.span (after position_coding s.grading box) (over (after position_coding s.grading box).stage);
   left = l;
-}
+})
 
 -- the rounds of so many iterations
 abbrev pub thrice : ℕ → ℕ

@@ -1,5 +1,5 @@
 -- The halving line keeps the laws of a line.
-use Rattle.std.specs.Prelude.{◌≡◌, ℕ, zero, suc, ◌-◌, ◌<◌, ◌≤◌, Bool, List, [], map, length, Some, None, Option, slice_index_or, refl}
+use Rattle.std.specs.Prelude.{◌≡◌, ℕ, suc, ◌-◌, ◌<◌, ◌≤◌, Bool, List, [], map, length, Some, None, Option, slice_index_or, refl}
 use Rattle.std.proofs.Common.{sym, ap, ◌∙◌, arith}
 use Rattle.std.proofs.lemmas.List.FromFn.{length-map-range_with_len, get_or-map-range_with_len}
 use Rattle.slot.specs.Positions.{number_of, position_at, position_near, position_bytes, position_coding}
@@ -19,28 +19,37 @@ use Rattle.trim.proofs.Iterations.{worsts}
 use Rattle.trim.proofs.Runs.{runs}
 use Rattle.trim.proofs.Steps.{steps}
 use Rattle.line.specs.Models.{span_of, line_after, LineStart, Follow, Agreed, Inside, Agree, Over, Counted, Short, Capped}
+use Rattle.lines.specs.CountsDown.{On, Parts, CountsDown, crew_at, span_at, left_at, on_span, inside_by, over_by, counted_by}
 use Rattle.lines.specs.Halvings.{heard_positions, halving_frame, halved, halving_after, halving_model}
+use Rattle.lines.specs.Lefts.{left_cases, left_less}
 use Rattle.lines.specs.declared.halving.Halving.{Halving}
 use Rattle.lines.specs.Positions.{near_is, slot_of}
-
--- one round
-after_crew : (s : Halving) (box : Box) (l : ℕ) → (halving_after s box l).crew ≡ s.crew
-after_crew s box zero = refl
-after_crew s box (suc l) = refl
-
-after_span : (s : Halving) (box : Box) (l : ℕ) → (halving_after s box l).span ≡ s.span
-after_span s box zero = refl
-after_span s box (suc l) = refl
-
-after-left : (s : Halving) (box : Box) (l : ℕ) → s.left ≡ l → (halving_after s box l).left ≡ l - 1
-after-left s box zero e = e
-after-left s box (suc l) e = omega arith
 
 -- the new position is in 1 to the span, so it is not cut
 halved_in : (s : Halving) (box : Box) → 1 ≤ number_of s.span → (1 ≤ halved s box) × (halved s box ≤ number_of s.span)
 halved_in s box some =
     let size = length-map-range_with_len (λ i. slot_from position_coding 1 0 (from box i)) 0 s.crew.n in
     step_in (number_of s.span) s.crew.t (heard_positions s.crew.n box) some (omega (arith, size, s.crew.enough)) halving_step steps.halving_inside
+
+abbrev halving_parts : Parts Halving
+halving_parts = record { crew = λ s. s.crew; span = λ s. s.span; own = λ s. s.own; left = λ s. s.left; in_all = λ n t span. halving_rounds span }
+
+counts : CountsDown halving_model halving_parts
+counts = record {
+  begun_crew = λ crew span position. refl;
+  begun_span = λ crew span position. refl;
+  begun_own = λ crew span position. refl;
+  begun_left = λ crew span position. refl;
+  keeps_crew = λ s b. left_cases (λ (x : Halving). x.crew ≡ s.crew) s _ s.left refl (λ l. refl);
+  keeps_span = λ s b. left_cases (λ (x : Halving). x.span ≡ s.span) s _ s.left refl (λ l. refl);
+  one_less = λ s b. left_less (λ (x : Halving). x.left) s _ s.left refl (λ l. refl);
+  stays_on = λ s b some h. left_cases (λ (x : Halving). On s.span x.own) s _ s.left h (λ l. (omega arith, omega (arith, (halved_in s b some).1)));
+  silent = λ s e. ap (halving_frame s) e;
+  still = λ s b e. ap (halving_after s b) e;
+  rounds = λ s. refl;
+  count = λ n t span. refl;
+  result = λ s. refl;
+}
 
 module _ (crew : Crew) (span position : ℕ) (box : ℕ → Box) where
   abbrev at : ℕ → Halving
@@ -49,70 +58,33 @@ module _ (crew : Crew) (span position : ℕ) (box : ℕ → Box) where
   abbrev rounds-in : ℕ
   rounds-in = halving_rounds (span_of span)
 
-  crew_at : (k : ℕ) → (at k).crew ≡ crew
-  crew_at zero = refl
-  crew_at (suc k) = after_crew (at k) (box k) (at k).left ∙ crew_at k
-
-  span_at : (k : ℕ) → (at k).span ≡ position_near span
-  span_at zero = refl
-  span_at (suc k) = after_span (at k) (box k) (at k).left ∙ span_at k
-
-  left_at : (k : ℕ) → (at k).left ≡ rounds-in - k
-  left_at zero = omega arith
-  left_at (suc k) = omega (arith, after-left (at k) (box k) (at k).left refl, left_at k)
+  left_in : (k : ℕ) → k < rounds-in → (at k).left ≡ suc (rounds-in - suc k)
+  left_in k h = omega (arith, left_at halving_model halving_parts counts crew span position box k)
 
   -- with a round left
   own_after : (k : ℕ) → k < rounds-in → (at (suc k)).own ≡ position_near (halved (at k) (box k))
-  own_after k h =
-      let e : (at k).left ≡ suc (rounds-in - suc k) = omega (arith, left_at k) in
-      ap (λ l. (halving_after (at k) (box k) l).own) e
+  own_after k h = ap (λ l. (halving_after (at k) (box k) l).own) (left_in k h)
 
   frame_at : (k : ℕ) → k < rounds-in → halving_model.frame (at k) ≡ position_bytes (at k).own
-  frame_at k h =
-      let e : (at k).left ≡ suc (rounds-in - suc k) = omega (arith, left_at k) in
-      ap (halving_frame (at k)) e
+  frame_at k h = ap (halving_frame (at k)) (left_in k h)
 
   halved_at : (k : ℕ) → (1 ≤ halved (at k) (box k)) × (halved (at k) (box k) ≤ span_of span)
   halved_at k =
-      let e = ap number_of (span_at k) in
+      let e = ap number_of (span_at halving_model halving_parts counts crew span position box k) in
       let b = halved_in (at k) (box k) (omega (arith, e)) in
       (b.0, omega (arith, b.1, e))
 
-  own_in_after : (s : Halving) (b : Box) (l : ℕ) → (1 ≤ number_of s.own) × (number_of s.own ≤ span_of span) → (1 ≤ halved s b) × (halved s b ≤ span_of span)
-      → (1 ≤ number_of (halving_after s b l).own) × (number_of (halving_after s b l).own ≤ span_of span)
-  own_in_after s b zero held new = held
-  own_in_after s b (suc l) held new = (omega arith, omega (arith, new.1))
-
-  own_in : (k : ℕ) → (1 ≤ number_of (at k).own) × (number_of (at k).own ≤ span_of span)
-  own_in zero = (omega arith, omega arith)
-  own_in (suc k) = own_in_after (at k) (box k) (at k).left (own_in k) (halved_at k)
-
 pub is_inside : Inside halving_model
-is_inside crew span position box k = own_in crew span position box k
-
-over_frame : (s : Halving) (l : ℕ) → l ≡ 0 → halving_frame s l ≡ []
-over_frame s zero e = refl
-over_frame s (suc l) e = absurd (omega arith)
-
-over-after : (s : Halving) (b : Box) (l : ℕ) → l ≡ 0 → halving_after s b l ≡ s
-over-after s b zero e = refl
-over-after s b (suc l) e = absurd (omega arith)
+is_inside = inside_by halving_model halving_parts counts
 
 pub is_over : Over halving_model
-is_over crew span position box k h =
-    let s = line_after halving_model crew span position box k in
-    let e : s.left ≡ 0 = omega (arith, left_at crew span position box k) in
-    (over_frame s s.left e, λ b. over-after s b s.left e)
+is_over = over_by halving_model halving_parts counts
 
 pub is_counted : Counted halving_model
-is_counted crew span position box k = ap (λ p. halving_rounds (number_of p)) (span_at crew span position box k)
-
-short_in : (s : Halving) (l : ℕ) → length (halving_frame s l) ≤ 128
-short_in s zero = omega arith
-short_in s (suc l) = omega arith
+is_counted = counted_by halving_model halving_parts counts
 
 pub is_short : Short halving_model
-is_short s = short_in s s.left
+is_short s = left_cases (λ f. length f ≤ 128) [] _ s.left (omega arith) (λ l. omega arith)
 
 pub is_capped : Capped halving_model
 is_capped crew span = omega (arith, worsts.halving_few (span_of span) (omega arith))
@@ -143,8 +115,8 @@ module _ (n t span : ℕ) (honest : List Bool) (st : LineStart) (box : ℕ → �
       let b = halved_at (st.crew i) span (st.position i) (box i) r in
       ap number_of (own_after (st.crew i) span (st.position i) (box i) r l)
       ∙ near_is (halved s (box i r)) b.0 (omega (arith, b.1))
-      ∙ ap (λ c. halving_step c.t (map (entry_of (number_of s.span)) (heard_positions c.n (box i r)))) (crew_at (st.crew i) span (st.position i) (box i) r)
-      ∙ ap (λ p. halving_step (st.crew i).t (map (entry_of (number_of p)) (heard_positions (st.crew i).n (box i r)))) (span_at (st.crew i) span (st.position i) (box i) r)
+      ∙ ap (λ c. halving_step c.t (map (entry_of (number_of s.span)) (heard_positions c.n (box i r)))) (crew_at halving_model halving_parts counts (st.crew i) span (st.position i) (box i) r)
+      ∙ ap (λ p. halving_step (st.crew i).t (map (entry_of (number_of p)) (heard_positions (st.crew i).n (box i r)))) (span_at halving_model halving_parts counts (st.crew i) span (st.position i) (box i) r)
       ∙ ap (λ x. halving_step (st.crew i).t (map (entry_of (span_of span)) (heard_positions x (box i r)))) (F.same i hi).0
       ∙ ap (λ x. halving_step x (map (entry_of (span_of span)) (heard_positions n (box i r)))) (F.same i hi).1
 
@@ -152,7 +124,7 @@ module _ (n t span : ℕ) (honest : List Bool) (st : LineStart) (box : ℕ → �
   the_run = record {
     faults = F.faults;
     short = omega arith;
-    starts = λ i hi. own_in (st.crew i) span (st.position i) (box i) 0;
+    starts = λ i hi. on_span halving_model halving_parts counts (st.crew i) span (st.position i) (box i) 0;
     size = λ r i l hi. length-map-range_with_len (λ k. slot_from position_coding 1 0 (from (box i r) k)) 0 n;
     gets = gets_at;
     moves = moves_at;

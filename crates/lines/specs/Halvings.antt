@@ -1,5 +1,5 @@
 -- The halving line.
-use Rattle.std.specs.Prelude.{ℕ, zero, suc, List, [], map, Option}
+use Rattle.std.specs.Prelude.{ℕ, List, [], map, Option}
 use Rattle.std.specs.List.{range_with_len}
 use Rattle.slot.specs.Positions.{number_of, position_near, position_bytes, position_coding}
 use Rattle.slot.specs.declared.position.Position.{Position}
@@ -9,6 +9,7 @@ use Rattle.trim.specs.Entries.{entry_of}
 use Rattle.trim.specs.Iterations.{halving_rounds}
 use Rattle.trim.specs.Trims.{halving_step}
 use Rattle.line.specs.Models.{LineModel, span_of, position_in}
+use Rattle.lines.specs.Lefts.{while_left}
 use Rattle.lines.specs.declared.halving.Halving.{Halving}
 
 -- what came from each of n units: the position in a frame of one slot, or nothing
@@ -17,8 +18,7 @@ heard_positions n box = map (λ i. slot_from position_coding 1 0 (from box i)) (
 
 -- the frame of the next round, with so many rounds left: the own position, and past the last round nothing
 abbrev pub halving_frame : Halving → ℕ → List ℕ
-halving_frame s zero = []
-halving_frame s (suc l) = position_bytes s.own
+halving_frame s = while_left [] (λ l. position_bytes s.own)
 
 -- the new position: half the sum of the least and the greatest left, rounded down
 abbrev pub halved : Halving → Box → ℕ
@@ -26,8 +26,7 @@ halved s box = halving_step s.crew.t (map (entry_of (number_of s.span)) (heard_p
 
 -- the state after a round, with so many rounds left before it; past the last round nothing changes
 abbrev pub halving_after : Halving → Box → ℕ → Halving
-halving_after s box zero = s
-halving_after s box (suc l) = record { crew = s.crew; span = s.span; own = position_near (halved s box); left = l }
+halving_after s box = while_left s (λ l. record s { own = position_near (halved s box); left = l })
 
 abbrev pub halving_model : LineModel Halving
 halving_model = record {

@@ -1,9 +1,11 @@
 pub mod Converges
+pub mod CountsDown
 pub mod Gradeds
 pub mod Halvings
 pub mod GradedLaws
 pub mod GradedRuns
 pub mod Iterated
+pub mod Lefts
 pub mod Positions
 pub mod Somewhere
 pub mod HalvingRuns

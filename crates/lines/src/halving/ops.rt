@@ -1,82 +1,36 @@
 // The calls of the halving line.
-ghost use Rattle.std.specs.Prelude.{◌≡◌, ◌≤◌, take};
-ghost use Rattle.wire.specs.Frames.{carried, box_of};
-ghost use Rattle.slot.specs.Positions.{position_bytes, position_near};
+ghost use Rattle.std.specs.Prelude.{◌≡◌, ℕ, ◌≤◌, take};
+ghost use Rattle.slot.specs.Positions.{position_near};
+ghost use Rattle.wire.specs.Frames.{box_of};
 ghost use Rattle.lines.specs.Halvings.{halving_model, halved, heard_positions};
 ghost use Rattle.lines.specs.HalvingRuns.{is_inside, they_agree, is_over, is_counted, is_short, is_capped};
 
 use super::Halving;
 use line::Line;
-use slot::{Kind, Position};
-use trim::{halving_rounds, halving_step};
+use slot::Position;
+use std::array;
+use trim::{UnitList, halving_rounds};
 use wire::{Crew, Frame, Inbox};
 
-// The positions of the first `n` units in the one-slot frames that came, at the start of an array.
-fn heard(inbox: &Inbox, n: usize) -> [Option<Position>; 16]
-    requires { n ≤ 16 }
-    ensures { take n result ≡ heard_positions n (box_of inbox.now) }
+// The position in each sender's frame of one slot.
+fn heard(inbox: &Inbox) -> [Option<Position>; 16]
+    ensures { (n : ℕ) → n ≤ 16 → take n result ≡ heard_positions n (box_of inbox.now) }
 {
-    let mut slots = [None; 16];
-    for i in 0..n {
-        slots[i] = inbox.slot::<Position>(i, 1, 0);
-    }
-    slots
+    array::from_fn(|sender| inbox.slot(sender, 1, 0))
 }
 
-// The position after a round.
-fn next_position(line: &Halving, inbox: &Inbox) -> Position
-    ensures { result ≡ position_near (halved line.now (box_of inbox.now)) }
-{
-    let n = line.crew.units();
-    let slots = heard(inbox, n);
-    Position::nearest(halving_step(&slots[0..n], line.span.number(), line.crew.faulty()))
-}
-
-// The frame of one slot with the own position.
-fn own_frame(own: Position) -> Frame
-    ensures { carried result ≡ position_bytes own }
-{
-    let mut slot = [0u8; 2];
-    own.write(&mut slot);
-    Frame::new(&slot)
-}
-
-// The frame of the next round.
-fn next_frame(line: &Halving) -> Frame
-    ensures { carried result ≡ halving_model.frame line.now }
-{
-    if line.left == 0 {
-        Frame::new(&[])
-    } else {
-        own_frame(line.own)
-    }
-}
-
-// The state after a round.
-fn next_state(line: &Halving, inbox: &Inbox) -> Halving
-    ensures { result ≡ halving_model.after line.now (box_of inbox.now) }
-{
-    if line.left == 0 {
-        return *line;
-    }
-    Halving {
-        crew: line.crew,
-        span: line.span,
-        own: next_position(line, inbox),
-        left: line.left - 1,
-    }
-}
-
-// A line before its first round.
-fn begun(crew: Crew, span: usize, position: usize) -> Halving
-    ensures { result ≡ halving_model.begun crew span position }
-{
-    let span = Position::nearest(span);
-    Halving {
-        crew,
-        span,
-        own: Position::nearest(position.max(1).min(span.number())),
-        left: halving_rounds(span.number()),
+impl Halving {
+    // The position after a round.
+    fn next_position(&self, inbox: &Inbox) -> Position
+        ensures { result ≡ position_near (halved self.now (box_of inbox.now)) }
+    {
+        let slots = heard(inbox);
+        let list = UnitList::new(
+            &slots[..self.crew.units()],
+            self.span.number(),
+            self.crew.faulty(),
+        );
+        Position::nearest(list.halving_step())
     }
 }
 
@@ -96,7 +50,13 @@ impl Line for Halving {
     ghost capped = { is_capped };
 
     fn start(crew: Crew, span: usize, position: usize) -> Halving {
-        begun(crew, span, position)
+        let span = Position::nearest(span);
+        Halving {
+            crew,
+            span,
+            own: Position::within(position, span),
+            left: halving_rounds(span.number()),
+        }
     }
 
     fn count(_crew: Crew, span: usize) -> usize {
@@ -108,11 +68,18 @@ impl Line for Halving {
     }
 
     fn frame(&self) -> Frame {
-        next_frame(self)
+        if self.left == 0 {
+            Frame::empty()
+        } else {
+            Frame::single(self.own)
+        }
     }
 
     fn step(&mut self, inbox: &Inbox) {
-        *self = next_state(self, inbox);
+        if self.left > 0 {
+            self.own = self.next_position(inbox);
+            self.left -= 1;
+        }
     }
 
     fn result(&self) -> usize {
