@@ -1,4 +1,4 @@
-use Rattle.std.proofs.Common.{◌≡◌, ◌∷◌, [], sym, ◌∙◌, inl, inr, arith, rules}
+use Rattle.std.proofs.Common.{◌≡◌, ◌%◌, length, ◌∷◌, [], sym, ◌∙◌, inl, inr, arith, rules}
 use Rattle.std.specs.Slice.Iter.{chunks_exact_rest}
 use Rattle.std.proofs.lemmas.Slice.Eq.{slice_eq-Decides}
 use Rattle.std.proofs.lemmas.Bool.Decides.{not_from_Decides, Decides-eqb}
@@ -8,13 +8,13 @@ use Rattle.script.proofs.hex.read_hex.Goals as goal
 pub returns-then-text-ne0-clause-refuses : goal.returns-then-text-ne0-clause-refuses
 returns-then-text-ne0-clause-refuses c =
     let other : c.args.text.now ≡ 45 ∷ [] → ⊥ = λ (e : c.args.text.now ≡ 45 ∷ []). not_from_Decides _ (slice_eq-Decides Decides-eqb _ _ _ c.eq.ensures) c.if-eq.false (e ∙ sym c.as_slice.ensures) in
-    inr (odd_none c.args.text.now c.if-text-ne0.true other)
+    inr (odd_none c.args.text.now (λ (even : length c.args.text.now % 2 ≡ 0). omega arith) other)
 
 pub returns-in_err-pair-clause-refuses : goal.returns-in_err-pair-clause-refuses
 returns-in_err-pair-clause-refuses c =
     let step = c.in-Some.ensures.steps in
     let inv = c.loop-digits.invariant in
-    let none = stray_none c.args.text.now c.loop-digits.bytes.items (chunks_exact_rest c.loop-digits.digits-iterator) c.in-Some.digits.now (chunks_exact_rest c.next.new.self) inv.0 step.1.0 (step.1.1 ∙ inv.1) c.if-text-ne0.false c.in_err-pair.ensures.refuses.1 in
+    let none = stray_none c.args.text.now c.loop-digits.bytes.items (chunks_exact_rest c.loop-digits.digits-iterator) c.in-Some.digits.now (chunks_exact_rest c.next.new.self) inv.0 step.1.0 (step.1.1 ∙ inv.1) (omega arith) c.in_err-pair.ensures.refuses.1 in
     search rules
 
 pub loop-digits-preserved : goal.loop-digits-preserved
@@ -29,4 +29,4 @@ loop-digits-preserved c =
 pub returns-clause-reads : goal.returns-clause-reads
 returns-clause-reads c =
     let inv = c.loop-digits.invariant in
-    inl (whole _ _ _ inv.0 c.if-text-ne0.false (omega (arith, c.in-None.ensures.steps.1.0, inv.1)))
+    inl (whole _ _ _ inv.0 (omega arith) (omega (arith, c.in-None.ensures.steps.1.0, inv.1)))
