@@ -1,71 +1,59 @@
--- One more byte, and its two digits.
-use Rattle.std.proofs.Common.{◌≡◌, ℕ, zero, suc, ◌+◌, ◌*◌, ◌/◌, ◌%◌, ◌<◌, true, ◌≢◌, ◌⊎◌, List, [], ◌∷◌, ◌++◌, length, get_or, take, is_err, IfOk, IfErr, Ok, Err, Result, sym, refl, ap, ◌∙◌, inl, inr, arith}
-use Rattle.std.proofs.lemmas.List.{append_assoc, take_more}
+-- Bytes and the digits that write them.
+use Rattle.std.proofs.Common.{◌≡◌, ℕ, suc, ◌*◌, ◌/◌, ◌%◌, ◌<◌, ◌≢◌, ◌⊎◌, List, [], ◌∷◌, ◌++◌, length, get_or, drop, refl, sym, ap, ◌∙◌, inl, inr, arith}
+use Rattle.std.proofs.lemmas.List.{length-append, append-nil}
 use Rattle.script.specs.Hex.{digit_of, hex_of, NotDigit, WritesNone}
-
-hex_of-push : (xs : List ℕ) (b : ℕ) → hex_of (xs ++ b ∷ []) ≡ hex_of xs ++ digit_of (b / 16) ∷ digit_of (b % 16) ∷ []
-hex_of-push [] b = refl
-hex_of-push (x ∷ xs) b = ap (λ (t : List ℕ). digit_of (x / 16) ∷ digit_of (x % 16) ∷ t) (hex_of-push xs b)
-
-take_two : (xs : List ℕ) (k : ℕ) → k + 1 < length xs → take (k + 2) xs ≡ take k xs ++ get_or xs k 0 ∷ get_or xs (k + 1) 0 ∷ []
-take_two xs k h =
-    let first : take (k + 1) xs ≡ take k xs ++ get_or xs k 0 ∷ [] = take_more xs k 0 (omega arith) in
-    let second : take (k + 1 + 1) xs ≡ take (k + 1) xs ++ get_or xs (k + 1) 0 ∷ [] = take_more xs (k + 1) 0 h in
-    let sum : k + 2 ≡ k + 1 + 1 = omega arith in
-    ap (λ (n : ℕ). take n xs) sum ∙ second ∙ ap (λ (t : List ℕ). t ++ get_or xs (k + 1) 0 ∷ []) first
-    ∙ append_assoc (take k xs) (get_or xs k 0 ∷ []) (get_or xs (k + 1) 0 ∷ [])
-
--- the bytes read so far with one more, where that is written by the next two digits
-pub turn : (text bytes after : List ℕ) (i b : ℕ) → after ≡ bytes ++ b ∷ [] → hex_of bytes ≡ take (2 * i) text
-    → 2 * i + 1 < length text → digit_of (b / 16) ≡ get_or text (2 * i) 0 → digit_of (b % 16) ≡ get_or text (2 * i + 1) 0
-    → hex_of after ≡ take (2 * (i + 1)) text
-turn text bytes after i b more inv within high low =
-    let sum : 2 * (i + 1) ≡ 2 * i + 2 = omega arith in
-    let pushed = hex_of-push bytes b in
-    let taken = take_two text (2 * i) within in
-    cc
 
 length-hex_of : (bs : List ℕ) → length (hex_of bs) ≡ 2 * length bs
 length-hex_of [] = refl
 length-hex_of (b ∷ bs) = let rest = length-hex_of bs in omega arith
 
--- every character of the digits of bytes is a digit
-high_digit : (bs : List ℕ) (i : ℕ) → i < length bs → get_or (hex_of bs) (2 * i) 0 ≡ digit_of (get_or bs i 0 / 16)
-high_digit [] i h = elim h [ ]
-high_digit (b ∷ bs) zero h = refl
-high_digit (b ∷ bs) (suc i) h =
-    let sum : 2 * suc i ≡ suc (suc (2 * i)) = omega arith in
-    ap (λ (n : ℕ). get_or (hex_of (b ∷ bs)) n 0) sum ∙ high_digit bs i (omega arith)
+two_more : (read digits rest : List ℕ) (b : ℕ) → length digits ≡ 2 → digit_of (b / 16) ≡ get_or digits 0 0 → digit_of (b % 16) ≡ get_or digits 1 0
+    → hex_of read ++ (digits ++ rest) ≡ hex_of (read ++ b ∷ []) ++ rest
+two_more [] (h ∷ l ∷ []) rest b two high low = cc
+two_more [] [] rest b two high low = absurd (omega arith)
+two_more [] (h ∷ []) rest b two high low = absurd (omega arith)
+two_more [] (h ∷ l ∷ x ∷ xs) rest b two high low = absurd (omega arith)
+two_more (x ∷ xs) digits rest b two high low = ap (λ (t : List ℕ). digit_of (x / 16) ∷ digit_of (x % 16) ∷ t) (two_more xs digits rest b two high low)
 
-low_digit : (bs : List ℕ) (i : ℕ) → i < length bs → get_or (hex_of bs) (2 * i + 1) 0 ≡ digit_of (get_or bs i 0 % 16)
-low_digit [] i h = elim h [ ]
-low_digit (b ∷ bs) zero h = refl
-low_digit (b ∷ bs) (suc i) h =
-    let sum : 2 * suc i + 1 ≡ suc (suc (2 * i + 1)) = omega arith in
-    ap (λ (n : ℕ). get_or (hex_of (b ∷ bs)) n 0) sum ∙ low_digit bs i (omega arith)
+-- the bytes read so far with one more, where that is written by the next two digits
+pub turn : (text read after left digits rest : List ℕ) (b : ℕ) → text ≡ hex_of read ++ left → left ≡ digits ++ rest → length digits ≡ 2
+    → digit_of (b / 16) ≡ get_or digits 0 0 → digit_of (b % 16) ≡ get_or digits 1 0 → after ≡ read ++ b ∷ [] → text ≡ hex_of after ++ rest
+turn text read after left digits rest b form next two high low more =
+    let step = two_more read digits rest b two high low in
+    cc
 
 -- a text with an odd number of characters writes nothing, but for `-`
 pub odd_none : (text : List ℕ) → length text % 2 ≢ 0 → (text ≡ 45 ∷ [] → ⊥) → WritesNone text
 odd_none text odd other bytes small (inl written) = let e = length-hex_of bytes in let l = ap length written in omega arith
 odd_none text odd other bytes small (inr dash) = other dash.0
 
--- a text with two characters of which one is no digit writes nothing, but for `-`
-pub stray_none : (text : List ℕ) (i : ℕ) → 2 * i + 1 < length text → (text ≡ 45 ∷ [] → ⊥)
-    → NotDigit (get_or text (2 * i) 0) ⊎ NotDigit (get_or text (2 * i + 1) 0) → WritesNone text
-stray_none text i within other stray bytes small (inr dash) = other dash.0
-stray_none text i within other stray bytes small (inl written) =
-    let e = length-hex_of bytes in
-    let l = ap length written in
-    let inside : i < length bytes = omega arith in
-    let few : get_or bytes i 0 < 256 = small i in
-    let high : get_or (hex_of bytes) (2 * i) 0 ≡ get_or text (2 * i) 0 = ap (λ (t : List ℕ). get_or t (2 * i) 0) written in
-    let low : get_or (hex_of bytes) (2 * i + 1) 0 ≡ get_or text (2 * i + 1) 0 = ap (λ (t : List ℕ). get_or t (2 * i + 1) 0) written in
-    elim stray [
-      | inl no-high ↦ no-high (get_or bytes i 0 / 16) (omega arith) (sym (high_digit bytes i inside) ∙ high)
-      | inr no-low ↦ no-low (get_or bytes i 0 % 16) (omega arith) (sym (low_digit bytes i inside) ∙ low)
+-- no bytes are written by digits and then two characters of which one is no digit
+stray : (read digits rest bytes : List ℕ) → length digits ≡ 2 → NotDigit (get_or digits 0 0) ⊎ NotDigit (get_or digits 1 0)
+    → ((k : ℕ) → get_or bytes k 0 < 256) → hex_of bytes ≡ hex_of read ++ (digits ++ rest) → ⊥
+stray [] (h ∷ l ∷ []) rest (b ∷ bs) two odd small e =
+    let few : b < 256 = small 0 in
+    elim odd [
+      | inl no-high ↦ no-high (b / 16) (omega arith) (ap (λ (t : List ℕ). get_or t 0 0) e)
+      | inr no-low ↦ no-low (b % 16) (omega arith) (ap (λ (t : List ℕ). get_or t 1 0) e)
     ]
+stray [] [] rest bytes two odd small e = omega arith
+stray [] (h ∷ []) rest bytes two odd small e = omega arith
+stray [] (h ∷ l ∷ x ∷ xs) rest bytes two odd small e = omega arith
+stray [] (h ∷ l ∷ []) rest [] two odd small e = let l = ap length e in omega arith
+stray (x ∷ xs) digits rest [] two odd small e = let l = ap length e in omega arith
+stray (x ∷ xs) digits rest (b ∷ bs) two odd small e = stray xs digits rest bs two odd (λ k. small (suc k)) (ap (drop 2) e)
 
--- what holds of every error holds of a result that is one
-pub of_error : {X Y : Type 0} (r : Result X Y) (P : X → Type 0) (Q : Y → Type 0) → is_err r ≡ true → ((y : Y) → Q y) → IfOk r P × IfErr r Q
-of_error (Ok x) P Q wrong every = let z : ◌≡◌ {A = ℕ} 0 1 = cc in let no : ⊥ = omega arith in elim no [ ]
-of_error (Err y) P Q h every = (tt, every y)
+-- so a text of this form with an even number of characters writes nothing
+pub stray_none : (text read left digits rest : List ℕ) → text ≡ hex_of read ++ left → left ≡ digits ++ rest → length digits ≡ 2 → length text % 2 ≡ 0
+    → NotDigit (get_or digits 0 0) ⊎ NotDigit (get_or digits 1 0) → WritesNone text
+stray_none text read left digits rest form next two even odd bytes small (inl written) =
+    stray read digits rest bytes two odd small (written ∙ form ∙ ap (λ (t : List ℕ). hex_of read ++ t) next)
+stray_none text read left digits rest form next two even odd bytes small (inr dash) = let l = ap length dash.0 in omega arith
+
+-- where fewer than two characters of an even number are left, none is
+pub whole : (text read rest : List ℕ) → text ≡ hex_of read ++ rest → length text % 2 ≡ 0 → length rest < 2 → hex_of read ≡ text
+whole text read [] form even few = sym (append-nil (hex_of read)) ∙ sym form
+whole text read (c ∷ cs) form even few =
+    let e = length-hex_of read in
+    let l = ap length form ∙ length-append (hex_of read) (c ∷ cs) in
+    absurd (omega arith)

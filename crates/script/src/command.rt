@@ -1,5 +1,7 @@
 // A line of a script as a command.
 use std::fmt;
+use std::num::ParseIntError;
+use std::str::FromStr;
 
 // A kind of value that a slot holds.
 #[derive(Clone, Copy)]
@@ -8,31 +10,26 @@ pub enum ValueKind {
     Label,
 }
 
-// A line agreement that is built.
+// A kind of line agreement.
 #[derive(Clone, Copy)]
 pub enum LineKind {
     Halving,
     Graded,
 }
 
-// What a line is started with.
+// A line agreement: its kind, its units, how many of them may be faulty, and its span.
 #[derive(Clone, Copy)]
-pub struct LineWords {
+pub struct Agreement {
     pub kind: LineKind,
     pub units: usize,
     pub faulty: usize,
-    pub own: usize,
     pub span: usize,
-    pub position: usize,
 }
 
-// A line agreement to be played: its units, and the positions of the honest ones, a word each.
+// An agreement to be played, and the positions of the honest units, a word each.
 #[derive(Clone, Copy)]
 pub struct Play<'a> {
-    pub kind: LineKind,
-    pub units: usize,
-    pub faulty: usize,
-    pub span: usize,
+    pub agreement: Agreement,
     pub positions: &'a str,
 }
 
@@ -75,7 +72,9 @@ pub enum Command<'a> {
     },
     NewLine {
         name: &'a str,
-        words: LineWords,
+        agreement: Agreement,
+        own: usize,
+        position: usize,
     },
     LineFrame {
         name: &'a str,
@@ -116,199 +115,169 @@ impl fmt::Display for LineFault {
     }
 }
 
-// The first word of a text, and what stands behind the blank after it.
-fn first_word(text: &str) -> Result<(&str, Option<&str>), LineFault> {
-    let (word, rest) = match text.split_once(' ') {
-        Some((word, rest)) => (word, Some(rest)),
-        None => (text, None),
-    };
-    if word.is_empty() {
-        return Err(LineFault::EmptyWord);
-    }
-    Ok((word, rest))
-}
-
-// The next word of a line, and the rest of it.
-fn next_word(rest: Option<&str>) -> Result<(&str, Option<&str>), LineFault> {
-    match rest {
-        Some(text) => first_word(text),
-        None => Err(LineFault::TooFewWords),
+impl From<ParseIntError> for LineFault {
+    fn from(_e: ParseIntError) -> LineFault {
+        LineFault::NoNumber
     }
 }
 
-fn one_word(rest: Option<&str>) -> Result<&str, LineFault> {
-    match next_word(rest)? {
-        (word, None) => Ok(word),
-        (_, Some(_)) => Err(LineFault::TooManyWords),
+impl FromStr for ValueKind {
+    type Err = LineFault;
+
+    fn from_str(word: &str) -> Result<ValueKind, LineFault> {
+        match word {
+            "position" => Ok(ValueKind::Position),
+            "label" => Ok(ValueKind::Label),
+            _ => Err(LineFault::UnknownKind),
+        }
     }
 }
 
-fn two_words(rest: Option<&str>) -> Result<(&str, &str), LineFault> {
-    let (first, rest) = next_word(rest)?;
-    Ok((first, one_word(rest)?))
-}
+impl FromStr for LineKind {
+    type Err = LineFault;
 
-fn three_words(rest: Option<&str>) -> Result<(&str, &str, &str), LineFault> {
-    let (first, rest) = next_word(rest)?;
-    let (second, third) = two_words(rest)?;
-    Ok((first, second, third))
-}
-
-fn number(word: &str) -> Result<usize, LineFault> {
-    match word.parse::<usize>() {
-        Ok(number) => Ok(number),
-        Err(_) => Err(LineFault::NoNumber),
+    fn from_str(word: &str) -> Result<LineKind, LineFault> {
+        match word {
+            "halving" => Ok(LineKind::Halving),
+            "graded" => Ok(LineKind::Graded),
+            _ => Err(LineFault::UnknownLine),
+        }
     }
 }
 
-fn value_kind(word: &str) -> Result<ValueKind, LineFault> {
-    match word {
-        "position" => Ok(ValueKind::Position),
-        "label" => Ok(ValueKind::Label),
-        _ => Err(LineFault::UnknownKind),
+// What is left of a line, of which words are taken from the front; nothing behind its last word.
+#[derive(Drop)]
+struct Words<'a>(Option<&'a str>);
+
+impl<'a> Words<'a> {
+    // The next word, up to a blank or the end of the line.
+    fn word(&mut self) -> Result<&'a str, LineFault> {
+        let text = self.rest()?;
+        let (word, rest) = match text.split_once(' ') {
+            Some((word, rest)) => (word, Some(rest)),
+            None => (text, None),
+        };
+        if word.is_empty() {
+            return Err(LineFault::EmptyWord);
+        }
+        self.0 = rest;
+        Ok(word)
     }
-}
 
-fn next_number(rest: Option<&str>) -> Result<(usize, Option<&str>), LineFault> {
-    let (word, rest) = next_word(rest)?;
-    Ok((number(word)?, rest))
-}
-
-fn line_kind(word: &str) -> Result<LineKind, LineFault> {
-    match word {
-        "halving" => Ok(LineKind::Halving),
-        "graded" => Ok(LineKind::Graded),
-        _ => Err(LineFault::UnknownLine),
+    // The next word, behind which the line ends.
+    fn last(&mut self) -> Result<&'a str, LineFault> {
+        let word = self.word()?;
+        match self.0 {
+            Some(_) => Err(LineFault::TooManyWords),
+            None => Ok(word),
+        }
     }
-}
 
-// The words that a line is started with, which end the command.
-fn line_words(rest: Option<&str>) -> Result<LineWords, LineFault> {
-    let (kind, rest) = next_word(rest)?;
-    let kind = line_kind(kind)?;
-    let (units, rest) = next_number(rest)?;
-    let (faulty, rest) = next_number(rest)?;
-    let (own, rest) = next_number(rest)?;
-    let (span, rest) = next_number(rest)?;
-    let position = number(one_word(rest)?)?;
-    Ok(LineWords {
-        kind,
-        units,
-        faulty,
-        own,
-        span,
-        position,
-    })
+    // The number that the next word writes.
+    fn number(&mut self) -> Result<usize, LineFault> {
+        Ok(self.word()?.parse()?)
+    }
+
+    // All words that are left.
+    fn rest(&self) -> Result<&'a str, LineFault> {
+        self.0.ok_or(LineFault::TooFewWords)
+    }
 }
 
 // The agreement that stands in a text.
 pub fn parse_play(text: &str) -> Result<Play<'_>, LineFault> {
-    let (kind, rest) = first_word(text)?;
-    let kind = line_kind(kind)?;
-    let (units, rest) = next_number(rest)?;
-    let (faulty, rest) = next_number(rest)?;
-    let (span, rest) = next_number(rest)?;
-    let positions = rest.ok_or(LineFault::TooFewWords)?;
+    let mut words = Words(Some(text));
+    let agreement = Agreement {
+        kind: words.word()?.parse()?,
+        units: words.number()?,
+        faulty: words.number()?,
+        span: words.number()?,
+    };
+    let positions = words.rest()?;
     Ok(Play {
-        kind,
-        units,
-        faulty,
-        span,
+        agreement,
         positions,
     })
 }
 
-// The number that a word writes.
-pub fn parse_number(word: &str) -> Result<usize, LineFault> {
-    number(word)
-}
-
 // The command that stands in a line.
 pub fn parse(line: &str) -> Result<Command<'_>, LineFault> {
-    let (verb, rest) = first_word(line)?;
-    match verb {
-        "label" => label_command(rest),
-        "newplan" => newplan_command(rest),
-        "read" => read_command(rest),
-        "walk" => walk_command(rest),
-        "depth" => depth_command(rest),
-        "way" => way_command(rest),
-        "meet" => meet_command(rest),
-        "grade" => grade_command(rest),
-        "newline" => newline_command(rest),
-        "lineframe" => lineframe_command(rest),
-        "linestep" => linestep_command(rest),
-        "lineresult" => lineresult_command(rest),
-        _ => Err(LineFault::UnknownCommand),
-    }
+    let mut words = Words(Some(line));
+    Ok(match words.word()? {
+        "label" => Command::Label {
+            text: words.last()?,
+        },
+        "newplan" => Command::NewPlan {
+            plan: words.last()?,
+        },
+        "read" => Command::Read {
+            plan: words.word()?,
+            file: words.last()?,
+        },
+        "walk" => Command::Walk {
+            plan: words.last()?,
+        },
+        "depth" => Command::Depth {
+            plan: words.word()?,
+            label: words.last()?,
+        },
+        "way" => Command::Way {
+            plan: words.word()?,
+            from: words.word()?,
+            to: words.last()?,
+        },
+        "meet" => Command::Meet {
+            plan: words.word()?,
+            one: words.word()?,
+            other: words.last()?,
+        },
+        "grade" => return grade_command(words),
+        "newline" => return line_command(words),
+        "lineframe" => Command::LineFrame {
+            name: words.last()?,
+        },
+        "linestep" => Command::LineStep {
+            name: words.word()?,
+            frames: words.rest()?,
+        },
+        "lineresult" => Command::LineResult {
+            name: words.last()?,
+        },
+        _ => return Err(LineFault::UnknownCommand),
+    })
 }
 
-fn label_command(rest: Option<&str>) -> Result<Command<'_>, LineFault> {
-    let text = one_word(rest)?;
-    Ok(Command::Label { text })
-}
-
-fn newplan_command(rest: Option<&str>) -> Result<Command<'_>, LineFault> {
-    let plan = one_word(rest)?;
-    Ok(Command::NewPlan { plan })
-}
-
-fn read_command(rest: Option<&str>) -> Result<Command<'_>, LineFault> {
-    let (plan, file) = two_words(rest)?;
-    Ok(Command::Read { plan, file })
-}
-
-fn walk_command(rest: Option<&str>) -> Result<Command<'_>, LineFault> {
-    let plan = one_word(rest)?;
-    Ok(Command::Walk { plan })
-}
-
-fn depth_command(rest: Option<&str>) -> Result<Command<'_>, LineFault> {
-    let (plan, label) = two_words(rest)?;
-    Ok(Command::Depth { plan, label })
-}
-
-fn way_command(rest: Option<&str>) -> Result<Command<'_>, LineFault> {
-    let (plan, from, to) = three_words(rest)?;
-    Ok(Command::Way { plan, from, to })
-}
-
-fn meet_command(rest: Option<&str>) -> Result<Command<'_>, LineFault> {
-    let (plan, one, other) = three_words(rest)?;
-    Ok(Command::Meet { plan, one, other })
-}
-
-fn grade_command(rest: Option<&str>) -> Result<Command<'_>, LineFault> {
-    let (kind, rest) = next_word(rest)?;
-    let (units, rest) = next_word(rest)?;
-    let (faulty, rest) = next_word(rest)?;
-    let frames = rest.ok_or(LineFault::TooFewWords)?;
+// All words are taken before the first of them is read as a kind or a number.
+fn grade_command(mut words: Words<'_>) -> Result<Command<'_>, LineFault> {
+    let kind = words.word()?;
+    let units = words.word()?;
+    let faulty = words.word()?;
+    let frames = words.rest()?;
     Ok(Command::Grade {
-        kind: value_kind(kind)?,
-        units: number(units)?,
-        faulty: number(faulty)?,
+        kind: kind.parse()?,
+        units: units.parse()?,
+        faulty: faulty.parse()?,
         frames,
     })
 }
 
-fn newline_command(rest: Option<&str>) -> Result<Command<'_>, LineFault> {
-    let (name, rest) = next_word(rest)?;
-    let words = line_words(rest)?;
-    Ok(Command::NewLine { name, words })
-}
-
-fn lineframe_command(rest: Option<&str>) -> Result<Command<'_>, LineFault> {
-    let name = one_word(rest)?;
-    Ok(Command::LineFrame { name })
-}
-
-fn linestep_command(rest: Option<&str>) -> Result<Command<'_>, LineFault> {
-    let (name, rest) = next_word(rest)?;
-    let frames = rest.ok_or(LineFault::TooFewWords)?;
-    Ok(Command::LineStep { name, frames })
-}
-
-fn lineresult_command(rest: Option<&str>) -> Result<Command<'_>, LineFault> {
-    let name = one_word(rest)?;
-    Ok(Command::LineResult { name })
+fn line_command(mut words: Words<'_>) -> Result<Command<'_>, LineFault> {
+    let name = words.word()?;
+    let kind = words.word()?.parse()?;
+    let units = words.number()?;
+    let faulty = words.number()?;
+    let own = words.number()?;
+    let span = words.number()?;
+    let position = words.last()?.parse()?;
+    Ok(Command::NewLine {
+        name,
+        agreement: Agreement {
+            kind,
+            units,
+            faulty,
+            span,
+        },
+        own,
+        position,
+    })
 }

@@ -66,8 +66,8 @@ pub fn read_hex(heap: Global, text: &[u8]) -> Result<Vec<u8>, HexFault>
     if text.len() % 2 != 0 {
         return Err(HexFault::HalfByte);
     }
-    for i in 0..text.len() / 2 {
-        bytes.push(pair(text[2 * i], text[2 * i + 1])?)?;
+    for digits in text.chunks_exact(2) {
+        bytes.push(pair(digits[0], digits[1])?)?;
     }
     Ok(bytes)
 }

@@ -6,7 +6,7 @@ mod hex;
 mod sentence;
 
 pub use command::{
-    Command, LineFault, LineKind, LineWords, Play, ValueKind, parse, parse_number, parse_play,
+    Agreement, Command, LineFault, LineKind, Play, ValueKind, parse, parse_play,
 };
 pub use hex::{Hex, HexFault, read_hex};
 pub use sentence::{LayerName, Sentence};

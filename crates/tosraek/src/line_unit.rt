@@ -2,7 +2,7 @@
 use crate::outcome::NoAnswer;
 use line::{Line, follow};
 use lines::{Graded, Halving};
-use script::{LineKind, LineWords};
+use script::{Agreement, LineKind};
 use wire::{Crew, Frame, Inbox};
 
 #[derive(Clone, Copy)]
@@ -18,11 +18,11 @@ pub struct LineUnit {
 }
 
 impl LineUnit {
-    pub fn start(words: LineWords) -> Result<LineUnit, NoAnswer> {
-        let crew = Crew::new(words.units, words.faulty, words.own)?;
-        let line = match words.kind {
-            LineKind::Halving => AnyLine::Halving(Halving::start(crew, words.span, words.position)),
-            LineKind::Graded => AnyLine::Graded(Graded::start(crew, words.span, words.position)),
+    pub fn start(agreement: Agreement, own: usize, position: usize) -> Result<LineUnit, NoAnswer> {
+        let crew = Crew::new(agreement.units, agreement.faulty, own)?;
+        let line = match agreement.kind {
+            LineKind::Halving => AnyLine::Halving(Halving::start(crew, agreement.span, position)),
+            LineKind::Graded => AnyLine::Graded(Graded::start(crew, agreement.span, position)),
         };
         Ok(LineUnit { crew, line })
     }

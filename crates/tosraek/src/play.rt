@@ -1,7 +1,7 @@
 // A whole line agreement with units that lie, round by round.
 use crate::line_unit::LineUnit;
 use crate::outcome::NoAnswer;
-use script::{LineFault, LineWords, Play, parse_number, parse_play};
+use script::{LineFault, Play, parse_play};
 use slot::{Kind, Position};
 use std::alloc::{AllocError, Global};
 use std::io;
@@ -12,20 +12,13 @@ fn honest_units(heap: Global, play: Play<'_>) -> Result<Vec<LineUnit>, NoAnswer>
     let mut units = Vec::new(heap);
     for word in play.positions.split(' ') {
         let own = units.len();
-        if own.saturating_add(play.faulty) >= play.units {
+        if own.saturating_add(play.agreement.faulty) >= play.agreement.units {
             return Err(NoAnswer::Line(LineFault::TooManyWords));
         }
-        let words = LineWords {
-            kind: play.kind,
-            units: play.units,
-            faulty: play.faulty,
-            own,
-            span: play.span,
-            position: parse_number(word)?,
-        };
-        units.push(LineUnit::start(words)?)?;
+        let position = word.parse::<usize>().map_err(LineFault::from)?;
+        units.push(LineUnit::start(play.agreement, own, position)?)?;
     }
-    if units.len().saturating_add(play.faulty) < play.units {
+    if units.len().saturating_add(play.agreement.faulty) < play.agreement.units {
         return Err(NoAnswer::Line(LineFault::TooFewWords));
     }
     Ok(units)
@@ -56,9 +49,9 @@ fn taken(play: Play<'_>, frames: &[Frame], receiver: usize) -> Inbox {
     for (sender, frame) in frames.iter().enumerate() {
         inbox.put(sender, frame.bytes());
     }
-    for sender in frames.len()..play.units.min(16) {
+    for sender in frames.len()..play.agreement.units.min(16) {
         if let Some(frame) = frames.first() {
-            inbox.put(sender, lie(frame, receiver, play.span).bytes());
+            inbox.put(sender, lie(frame, receiver, play.agreement.span).bytes());
         }
     }
     inbox

@@ -4,7 +4,7 @@ use crate::line_unit::LineUnit;
 use crate::outcome::{NO_STATION, NoAnswer};
 use label::Label;
 use plan::Plan;
-use script::{Command, Hex, LineWords, ValueKind, parse, read_hex};
+use script::{Agreement, Command, Hex, ValueKind, parse, read_hex};
 use slot::{Kind, Position};
 use std::alloc::{AllocError, Global};
 use std::collections::BTreeMap;
@@ -72,7 +72,12 @@ impl Session {
                 faulty,
                 frames,
             } => self.grade(kind, units, faulty, frames),
-            Command::NewLine { name, words } => self.new_line(name, words),
+            Command::NewLine {
+                name,
+                agreement,
+                own,
+                position,
+            } => self.new_line(name, agreement, own, position),
             Command::LineFrame { name } => self.line_frame(name),
             Command::LineStep { name, frames } => self.line_step(name, frames),
             Command::LineResult { name } => self.line_result(name),
@@ -169,8 +174,14 @@ impl Session {
         }
     }
 
-    fn new_line(&mut self, name: &str, words: LineWords) -> Result<String, NoAnswer> {
-        let unit = LineUnit::start(words)?;
+    fn new_line(
+        &mut self,
+        name: &str,
+        agreement: Agreement,
+        own: usize,
+        position: usize,
+    ) -> Result<String, NoAnswer> {
+        let unit = LineUnit::start(agreement, own, position)?;
         self.keep_line(name, unit)?;
         Ok(unit.rounds().to_string(self.heap)?)
     }
