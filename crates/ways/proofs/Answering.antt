@@ -1,5 +1,5 @@
 -- What an answer by indices says of labels.
-use Rattle.std.proofs.Common.{◌≡◌, ℕ, ◌+◌, ◌-◌, ◌<◌, ◌≤◌, false, eqb, List, [], ◌∷◌, map, length, take, drop, Some, Decides, sym, ap, ◌∙◌, subst, ⊎_elim, arith}
+use Rattle.std.proofs.Common.{◌≡◌, ℕ, ◌+◌, ◌-◌, ◌<◌, ◌≤◌, false, eqb, List, [], ◌∷◌, ◌++◌, map, length, take, drop, Some, Decides, sym, ap, ◌∙◌, subst, ⊎_elim, arith}
 use Rattle.std.proofs.lemmas.Bool.{cases_lt, eqb-true, eq-eqb}
 use Rattle.label.specs.declared.label.Label.{Label}
 use Rattle.tree.specs.declared.Station.{Station}
@@ -62,8 +62,9 @@ module _ (ps : List Station) (h : Canonical ps) where
   pub course_fits : (u v : ℕ) (xs : List Label) → u < length ps → v < length ps → xs ≡ [] → length xs + length (course_from ps u v) ≤ 1024
   course_fits u v xs lu lv e = omega (arith, ap length e, course_short ps h u v lu lv, h.few)
 
-  pub told_way : (a b : Label) (before after course : List Label) (u v n : ℕ) → At ps a u → At ps b v → course ≡ map (station_label ps) (course_from ps u v) → n ≡ length course → take n after ≡ course → drop n after ≡ drop n before → WayTold ps a b before after (Some n)
-  told_way a b before after course u v n fu fv listed count w d =
+  pub told_way : (a b : Label) (before after empty course : List Label) (u v n : ℕ) → At ps a u → At ps b v → empty ≡ [] → course ≡ empty ++ map (station_label ps) (course_from ps u v) → n ≡ length course → take n after ≡ course → drop n after ≡ drop n before → WayTold ps a b before after (Some n)
+  told_way a b before after empty course u v n fu fv none added count w d =
+      let listed : course ≡ map (station_label ps) (course_from ps u v) = added ∙ ap (λ (xs : List Label). xs ++ map (station_label ps) (course_from ps u v)) none in
       let t = course_way ps h u v fu.0 fv.0 in
       let le : n ≤ 1024 = omega (arith, count, ap length listed, length-map (course_from ps u v) (station_label ps), course_short ps h u v fu.0 fv.0, h.few) in
       record {
