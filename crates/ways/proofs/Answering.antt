@@ -1,5 +1,5 @@
 -- What an answer by indices says of labels.
-use Rattle.std.proofs.Common.{◌≡◌, ℕ, ◌+◌, ◌-◌, ◌<◌, ◌≤◌, false, eqb, List, [], ◌∷◌, map, length, take, drop, Some, None, Decides, Option, sym, ap, ◌∙◌, subst, ⊎_elim, true≢false, arith}
+use Rattle.std.proofs.Common.{◌≡◌, ℕ, ◌+◌, ◌-◌, ◌<◌, ◌≤◌, false, eqb, List, [], ◌∷◌, ◌++◌, map, length, take, drop, Some, Decides, sym, ap, ◌∙◌, subst, ⊎_elim, arith}
 use Rattle.std.proofs.lemmas.Bool.{cases_lt, eqb-true, eq-eqb}
 use Rattle.label.specs.declared.label.Label.{Label}
 use Rattle.tree.specs.declared.Station.{Station}
@@ -17,12 +17,6 @@ use Rattle.ways.specs.Calls.{WayTold}
 -- station i has the label a
 abbrev pub At : List Station → Label → ℕ → Type 0
 At ps a i = (i < length ps) × (station_label ps i ≡ a)
-
-some_one : (m n : ℕ) → ◌≡◌ {A = Option ℕ} (Some m) (Some n) → m ≡ n
-some_one m n e = cc
-
-some_none : (n : ℕ) → ◌≡◌ {A = Option ℕ} (Some n) None → ⊥
-some_none n e = let z : ◌≡◌ {A = ℕ} 0 1 = cc in omega arith
 
 module _ (ps : List Station) (h : Canonical ps) where
   pub told_root : (l : Label) → l ≡ station_label ps 0 → Root ps l
@@ -54,7 +48,7 @@ module _ (ps : List Station) (h : Canonical ps) where
       )
 
   pub told_not_above : (a b : Label) → (Holds ps a → Holds ps b → ⊥) → Decides false (Above ps a b)
-  told_not_above a b f = ((λ t. absurd (true≢false (sym t))), (λ o. let k = above_held ps h a b o in absurd (f k.0 k.1)))
+  told_not_above a b f = ((λ t. cc), (λ o. let k = above_held ps h a b o in absurd (f k.0 k.1)))
 
   pub told_deepest : (a b l : Label) (u v m : ℕ) → At ps a u → At ps b v → MeetAt (length ps) (parent_of ps) (depth_of ps) m u v → l ≡ station_label ps m → Deepest ps l a b
   told_deepest a b l u v m fu fv t e =
@@ -68,15 +62,16 @@ module _ (ps : List Station) (h : Canonical ps) where
   pub course_fits : (u v : ℕ) (xs : List Label) → u < length ps → v < length ps → xs ≡ [] → length xs + length (course_from ps u v) ≤ 1024
   course_fits u v xs lu lv e = omega (arith, ap length e, course_short ps h u v lu lv, h.few)
 
-  pub told_way : (a b : Label) (before after course : List Label) (u v n : ℕ) → At ps a u → At ps b v → course ≡ map (station_label ps) (course_from ps u v) → n ≡ length course → take n after ≡ course → drop n after ≡ drop n before → WayTold ps a b before after (Some n)
-  told_way a b before after course u v n fu fv listed count w d =
+  pub told_way : (a b : Label) (before after empty course : List Label) (u v n : ℕ) → At ps a u → At ps b v → empty ≡ [] → course ≡ empty ++ map (station_label ps) (course_from ps u v) → n ≡ length course → take n after ≡ course → drop n after ≡ drop n before → WayTold ps a b before after (Some n)
+  told_way a b before after empty course u v n fu fv none added count w d =
+      let listed : course ≡ map (station_label ps) (course_from ps u v) = added ∙ ap (λ (xs : List Label). xs ++ map (station_label ps) (course_from ps u v)) none in
       let t = course_way ps h u v fu.0 fv.0 in
       let le : n ≤ 1024 = omega (arith, count, ap length listed, length-map (course_from ps u v) (station_label ps), course_short ps h u v fu.0 fv.0, h.few) in
       record {
-        written = λ m e. subst (λ (k : ℕ). (xs : List Label) × ((take k after ≡ a ∷ xs) × Way (Leg ps) a xs b)) (some_one n m e)
+        written = λ m e. let same : n ≡ m = cc in subst (λ (k : ℕ). (xs : List Label) × ((take k after ≡ a ∷ xs) × Way (Leg ps) a xs b)) same
             (t.0, (w ∙ listed ∙ t.1.0 ∙ ap (λ (z : Label). z ∷ t.0) fu.1, subst (λ (z : Label). Way (Leg ps) z t.0 b) fu.1 (subst (λ (z : Label). Way (Leg ps) (station_label ps u) t.0 z) fv.1 t.1.1)));
-        behind = λ m e. subst (λ (k : ℕ). drop k after ≡ drop k before) (some_one n m e) d;
-        within = λ m e. subst (λ (k : ℕ). k ≤ 1024) (some_one n m e) le;
-        lacking = λ e. absurd (some_none n e);
-        untouched = λ e. absurd (some_none n e);
+        behind = λ m e. let same : n ≡ m = cc in subst (λ (k : ℕ). drop k after ≡ drop k before) same d;
+        within = λ m e. let same : n ≡ m = cc in omega arith;
+        lacking = λ e. cc;
+        untouched = λ e. cc;
       }

@@ -1,5 +1,5 @@
 -- What a binary search by keys finds among the stations of a plan.
-use Rattle.std.proofs.Common.{◌≡◌, ℕ, ◌<◌, ◌≤◌, List, length, ◌⊎◌, ⊎_elim, ap, Option, Some, None, Result, Ok, Err, sym, subst, arith}
+use Rattle.std.proofs.Common.{◌≡◌, ℕ, ◌<◌, ◌≤◌, List, length, ◌⊎◌, ⊎_elim, ap, Bool, is_some, Decides, Option, Some, None, Result, Ok, Err, sym, subst, arith}
 use Rattle.std.specs.List.Sorted.{IsSearchInRange, IsBinarySearchResult, IsNonDecreasingBy}
 use Rattle.std.specs.Ordering.{nat_cmp, ordering_index}
 use Rattle.std.specs.Option.{option_zip}
@@ -13,6 +13,7 @@ use Rattle.label.specs.Orders.{key_of}
 use Rattle.label.proofs.Keys.{same_key}
 use Rattle.tree.specs.declared.Station.{Station}
 use Rattle.tree.specs.Stations.{nowhere, station_label, Ascending}
+use Rattle.tree.specs.Caves.{Holds}
 use Rattle.tree.specs.Index.{Found}
 use Rattle.ways.specs.Calls.{BothFound}
 
@@ -35,6 +36,10 @@ module _ (ps : List Station) (ascending : Ascending ps) (a : Label) where
           (λ (lt : k < i). let less : key_of (station_label ps k) < key_of a = ranked _ _ _ (sym ((e rising).0 k nowhere (omega arith) lt)) in omega arith)
           (λ (le : i ≤ k). let more : key_of a < key_of (station_label ps k) = ranked _ _ _ (sym ((e rising).1 k nowhere le lk)) in omega arith)
           side
+
+pub found_decides : (ps : List Station) (a : Label) (o : Option ℕ) (r : Bool) → r ≡ is_some o → Found ps a o → Decides r (Holds ps a)
+found_decides ps a (Some i) r e f = ((λ _. (i, f)), (λ _. e))
+found_decides ps a None r e f = ((λ t. cc), (λ h. absurd (f h)))
 
 pub both_found : (ps : List Station) (a b : Label) (u v : Option ℕ) (r : Option (ℕ × ℕ)) → r ≡ option_zip u v → Found ps a u → Found ps b v → BothFound ps a b r
 both_found ps a b (Some u) (Some v) r e f g = subst (BothFound ps a b) (sym e) (f, g)
