@@ -1,5 +1,6 @@
 // A kind of value: how wide its slot is, and how a slot is read and written.
-ghost use Rattle.std.specs.Prelude.{◌≡◌, Bool, Decides};
+ghost use Rattle.std.specs.Prelude.{◌≡◌, ℕ, Bool, Decides};
+ghost use Rattle.std.proofs.Common.{refl};
 ghost use Rattle.slot.specs.Codings.{Coding, Lawful};
 ghost use Rattle.slot.specs.Labels.{label_coding};
 ghost use Rattle.slot.specs.Positions.{position_coding};
@@ -16,12 +17,10 @@ pub trait Kind: Sized + Copy + PartialEq {
     // The width of a slot in bytes.
     const WIDTH: usize;
 
+    ghost WIDTH: { ℕ };
+
     // How the values stand in slots.
     ghost coding: { Coding Self };
-
-    // The width again, as a call that a contract can speak of.
-    fn slot_width() -> usize
-        ensures { result ≡ coding.wide };
 
     // The value in a slot's bytes.
     fn read(bytes: &[u8]) -> Option<Self>
@@ -35,6 +34,8 @@ pub trait Kind: Sized + Copy + PartialEq {
     fn write_missing(out: &mut [u8])
         ensures { out.new ≡ laid coding.blank out.old };
 
+    ghost wide: { WIDTH ≡ coding.wide };
+
     ghost lawful: { Lawful coding };
 
     // `==` tells whether two values are the same.
@@ -45,15 +46,15 @@ pub trait Kind: Sized + Copy + PartialEq {
 impl Kind for Label {
     const WIDTH: usize = 8;
 
+    ghost WIDTH = { 8 };
+
     ghost coding = { label_coding };
+
+    ghost wide = { refl };
 
     ghost lawful = { label_lawful };
 
     ghost equal = { same_bytes };
-
-    fn slot_width() -> usize {
-        Self::WIDTH
-    }
 
     fn read(bytes: &[u8]) -> Option<Label> {
         Label::read(bytes)
@@ -72,15 +73,15 @@ impl Kind for Label {
 impl Kind for Position {
     const WIDTH: usize = 2;
 
+    ghost WIDTH = { 2 };
+
     ghost coding = { position_coding };
+
+    ghost wide = { refl };
 
     ghost lawful = { position_lawful };
 
     ghost equal = { same_number };
-
-    fn slot_width() -> usize {
-        Self::WIDTH
-    }
 
     fn read(bytes: &[u8]) -> Option<Position> {
         let [high, low] = bytes else {

@@ -43,7 +43,7 @@ impl Frame {
         value.write(&mut bytes);
         Frame {
             bytes,
-            len: K::slot_width(),
+            len: K::WIDTH,
         }
     }
 
@@ -60,7 +60,7 @@ impl Frame {
     pub fn slot<K: Kind>(&self, slots: usize, s: usize) -> Option<K>
         ensures { result ≡ slot_of K.coding slots s (carried self.now) }
     {
-        let width = K::slot_width();
+        let width = K::WIDTH;
         if s >= slots || width.checked_mul(slots) != Some(self.len) {
             return None;
         }
