@@ -3,7 +3,7 @@ use Rattle.std.proofs.Common.{◌≡◌, ℕ, ◌&&◌, eqb, Bool, true, false, 
 use mathlib.Core.Bool.{Bool-set}
 use Rattle.std.proofs.lemmas.Slice.Eq.{text_from_reads}
 use Rattle.std.proofs.lemmas.Bool.{cases_eq, and_parts, and_from, eqb-true, eq-eqb}
-use Rattle.label.specs.Labels.{bytes_of, label_of, passed, Shaped}
+use Rattle.label.specs.Labels.{bytes_of, label_of, passed, Shaped, ReadExactly, AllShaped}
 use Rattle.label.specs.Signs.{lawful}
 use Rattle.label.specs.declared.label.Label.{Label}
 use Rattle.label.proofs.Shapes.{lawful_shaped, shaped_lawful}
@@ -107,11 +107,19 @@ label_exact bs = (read, λ s. some_lawful bs s.eight ∙ shaped_lawful bs s)
         (λ (h : length bs ≡ 8 → ⊥). absurd (true≢false (sym q ∙ ap is_some (not_eight bs h))))
         (cases_eq (length bs) 8)
 
--- the two clauses of what reading ensures, where the eight bytes are read one by one
-pub read_is : (bs : List ℕ) (o : Option Label) → length bs ≡ 8
-    → o ≡ label_of (get_or bs 0 0 ∷ get_or bs 1 0 ∷ get_or bs 2 0 ∷ get_or bs 3 0 ∷ get_or bs 4 0 ∷ get_or bs 5 0 ∷ get_or bs 6 0 ∷ get_or bs 7 0 ∷ [])
-    → o ≡ label_of bs
-read_is bs o h e = e ∙ sym (ap label_of (eight bs h))
+-- lawful bytes are lawful one by one
+pub eight_lawful : (bs : List ℕ) → length bs ≡ 8 → lawful bs ≡ true
+    → lawful (get_or bs 0 0 ∷ get_or bs 1 0 ∷ get_or bs 2 0 ∷ get_or bs 3 0 ∷ get_or bs 4 0 ∷ get_or bs 5 0 ∷ get_or bs 6 0 ∷ get_or bs 7 0 ∷ []) ≡ true
+eight_lawful bs h e = sym (ap lawful (eight bs h)) ∙ e
 
-pub read_exact : (bs : List ℕ) (o : Option Label) → o ≡ label_of bs → (is_some o ≡ true) ↔ Shaped bs
-read_exact bs o e = rw e (label_exact bs)
+-- the label whose bytes are these eight is read
+pub found : (bs : List ℕ) (l : Label) → length bs ≡ 8
+    → bytes_of l ≡ get_or bs 0 0 ∷ get_or bs 1 0 ∷ get_or bs 2 0 ∷ get_or bs 3 0 ∷ get_or bs 4 0 ∷ get_or bs 5 0 ∷ get_or bs 6 0 ∷ get_or bs 7 0 ∷ []
+    → Some l ≡ label_of bs
+found bs l h e = sym (read_written l) ∙ ap label_of (e ∙ sym (eight bs h))
+
+pub read_exact : (bs : List ℕ) (o : Option Label) → o ≡ label_of bs → ReadExactly bs o
+read_exact bs o e = let both = label_exact bs in record { shaped = λ q. both.0 (sym (ap is_some e) ∙ q); whole = λ s. ap is_some e ∙ both.1 s }
+
+pub all_shaped : AllShaped
+all_shaped = record { every = bytes_shaped }
