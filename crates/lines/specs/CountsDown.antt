@@ -60,21 +60,21 @@ module _ {S : Type 0} (M : LineModel S) (p : Parts S) (c : CountsDown M p) (crew
       let b = c.stays_on (at k) (box k) (omega (arith, e)) (h.0, omega (arith, h.1, e)) in
       (b.0, omega (arith, b.1, e))
 
--- so the result is in 1 to the span,
+-- The result of such a line is in 1 to the span.
 pub inside_by : {S : Type 0} (M : LineModel S) (p : Parts S) → CountsDown M p → Inside M
 inside_by M p c crew span position box k =
     let b = on_span M p c crew span position box k in
     let r = c.result (line_after M crew span position box k) in
     (omega (arith, b.0, r), omega (arith, b.1, r))
 
--- past the last round nothing is sent and nothing changes,
+-- Past its last round nothing is sent and nothing changes.
 pub over_by : {S : Type 0} (M : LineModel S) (p : Parts S) → CountsDown M p → Over M
 over_by M p c crew span position box k h =
     let s = line_after M crew span position box k in
     let e : p.left s ≡ 0 = omega (arith, left_at M p c crew span position box k) in
     (c.silent s e, λ b. c.still s b e)
 
--- and a started line tells the count that is known from the crew and the span
+-- Once started it tells the count that is known from the crew and the span.
 pub counted_by : {S : Type 0} (M : LineModel S) (p : Parts S) → CountsDown M p → Counted M
 counted_by M p c crew span position box k =
     let s = line_after M crew span position box k in

@@ -1,13 +1,14 @@
 -- Entries lie on the line, and so does what a step makes of them.
-use Rattle.std.proofs.Common.{◌≡◌, ℕ, zero, suc, ◌+◌, ◌-◌, ◌*◌, ◌/◌, ◌^◌, ◌<◌, ◌≤◌, Bool, true, not, leb, List, map, length, get_or, replicate, take, drop, Some, None, sum, count_by, Option, sym, refl, ap, ◌∙◌, mul-le-mul_right, arith}
+use Rattle.std.proofs.Common.{◌≡◌, ℕ, ◌+◌, ◌-◌, ◌*◌, ◌/◌, ◌^◌, ◌<◌, ◌≤◌, Bool, true, not, leb, List, map, length, get_or, replicate, take, drop, Some, None, sum, count_by, Option, sym, ap, ◌∙◌, mul-le-mul_right, mul-zero, arith}
 use Rattle.std.specs.List.{range_with_len}
 use Rattle.std.proofs.lemmas.List.{length-map, length-replicate, get_or-map}
+use Rattle.std.proofs.lemmas.List.Folds.{sum_by-replicate}
 use Rattle.std.proofs.lemmas.List.FromFn.{fill_by_all}
 use Rattle.std.proofs.lemmas.Bool.{leb-true, le-leb, cond-true, cond_both, and_parts, and_from}
 use Rattle.slot.specs.declared.position.Position.{Position}
 use Rattle.slot.specs.Positions.{number_of, position_at}
 use Rattle.slot.specs.PositionsLemmas.{position_at_lem}
-use Rattle.wire.proofs.Counts.{count_cons, honest_below}
+use Rattle.wire.proofs.Counts.{one, honest_below}
 use Rattle.wire.specs.Spreads.{Within}
 use Rattle.wire.specs.Units.{Faults}
 use Rattle.trim.specs.Trims.{sorted, kept, least, greatest, graded_step}
@@ -40,8 +41,7 @@ entry_at span v low high short =
 
 -- a step stays on the line: every unit may count as honest, since all entries lie on it
 none_faulty : (n : ℕ) → count_by not (replicate n true) ≡ 0
-none_faulty zero = refl
-none_faulty (suc n) = omega (arith, count_cons not true (replicate n true), none_faulty n)
+none_faulty n = sum_by-replicate (λ b. one (not b)) n true ∙ mul-zero n
 
 module _ (span t : ℕ) (slots : List (Option Position)) (long : 1 ≤ span) (enough : 3 * t + 1 ≤ length slots) where
   abbrev all : List Bool

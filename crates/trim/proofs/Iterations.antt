@@ -166,10 +166,6 @@ log_least wide p r power reach first low high =
       none_below = λ j l h. omega (arith, pow_mono {i = suc j} {j = r} l, two-pow-succ j, pow_pos j, p_is, first, h);
     }
 
-pub doublings_log : (wide p r : ℕ) → IsPowerOfTwo p → wide ≤ p → p / 2 < max 1 wide → 2 ^ r ≤ p → p < 2 * 2 ^ r → r ≡ doublings wide
-doublings_log wide p r power reach first low high =
-    least_same (λ k. wide ≤ 2 ^ k) r (doublings wide) (log_least wide p r power reach first low high) (doublings-least wide)
-
 pub doublings-few : (wide : ℕ) → wide ≤ 2048 → doublings wide ≤ 11
 doublings-few wide h = least_within (λ k. wide ≤ 2 ^ k) (doublings wide) 11 (doublings-least wide) h
 

@@ -5,7 +5,6 @@ ghost use Rattle.trim.specs.Steps.{ceil};
 ghost use Rattle.trim.specs.Iterations.{worst, halving_rounds, iterations, graded_iterations, Least, Worsts};
 
 // The rounds of the halving line: the least k with 2 ^ k at least the span less one.
-#[tactic(auto, using(crate::proofs::Iterations::doublings_log, crate::proofs::Iterations::worsts, crate::proofs::Runs::runs))]
 pub fn halving_rounds(span: usize) -> usize
     requires some { 1 ≤ span }
     requires short { span ≤ 2047 }

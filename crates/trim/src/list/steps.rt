@@ -6,14 +6,14 @@ ghost use Rattle.trim.specs.Trims.{kept, least, greatest, halving_step, graded_s
 
 use super::UnitList;
 
-// The least and the greatest that are left of a list.
+// The least and the greatest that are left of a unit's list.
 #[derive(Clone, Copy)]
 struct Ends {
     low: usize,
     high: usize,
 }
 
-// The sum of a list.
+// The sum of a list whose sum fits.
 fn total(list: &[usize]) -> usize
     requires { sum list.now < 2 ^ 64 }
     ensures { result ≡ sum list.now }
@@ -22,6 +22,7 @@ fn total(list: &[usize]) -> usize
 }
 
 impl<'a> UnitList<'a> {
+    // The least and the greatest of those left.
     fn ends_left(&self) -> Ends
         ensures low { result.low ≡ least self.now.t (entries self.now) }
         ensures high { result.high ≡ greatest self.now.t (entries self.now) }
@@ -34,6 +35,7 @@ impl<'a> UnitList<'a> {
         }
     }
 
+    // The sum of those left.
     #[tactic(auto, using(crate::proofs::Entries::left_sum, crate::proofs::Entries::sum_fits))]
     fn sum_left(&self) -> usize
         ensures { result ≡ sum (kept self.now.t (entries self.now)) }
