@@ -1,5 +1,6 @@
 // What is wrong with a block.
-ghost use Rattle.block.specs.Faults.{block_told};
+ghost use Rattle.std.specs.Prelude.{Some};
+ghost use Rattle.block.specs.Faults.{block_told, block_sentence};
 
 use label::{Diagnostic, Fault, Layer};
 use std::error::Error;
@@ -22,6 +23,8 @@ pub struct BlockFault {
 }
 
 impl fmt::Display for BlockFault {
+    ghost output = { λ e. Some (block_sentence e.cause e.byte) };
+
     fn fmt<W: fmt::Write>(&self, f: &mut fmt::Formatter<W>) -> fmt::Result {
         let byte = self.byte;
         match self.cause {

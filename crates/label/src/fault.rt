@@ -1,7 +1,7 @@
 // What a fault tells: its number, the layer that found it, and the byte of the file where its block or record
 // starts, 0 where it has none.
-ghost use Rattle.std.specs.Prelude.{◌≡◌};
-ghost use Rattle.label.specs.Faults.{text_told};
+ghost use Rattle.std.specs.Prelude.{◌≡◌, Some};
+ghost use Rattle.label.specs.Faults.{text_told, layer_name, told_text, text_sentence};
 ghost use Rattle.label.specs.declared.fault.Diagnostic.{Diagnostic};
 
 use std::error::Error;
@@ -16,6 +16,8 @@ pub enum Layer {
 }
 
 impl fmt::Display for Layer {
+    ghost output = { λ l. Some (layer_name l) };
+
     fn fmt<W: fmt::Write>(&self, f: &mut fmt::Formatter<W>) -> fmt::Result {
         f.write_str(match self {
             Layer::Block => "block",
@@ -33,6 +35,8 @@ pub struct Diagnostic {
 }
 
 impl fmt::Display for Diagnostic {
+    ghost output = { λ d. Some (told_text d) };
+
     fn fmt<W: fmt::Write>(&self, f: &mut fmt::Formatter<W>) -> fmt::Result {
         write!(f, "fault {} {} {}", self.number, self.layer, self.byte)
     }
@@ -53,6 +57,8 @@ pub enum TextFault {
 }
 
 impl fmt::Display for TextFault {
+    ghost output = { λ e. Some (text_sentence e) };
+
     fn fmt<W: fmt::Write>(&self, f: &mut fmt::Formatter<W>) -> fmt::Result {
         f.write_str(match self {
             TextFault::NoLabel => {
