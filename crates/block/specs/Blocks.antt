@@ -1,6 +1,6 @@
 -- What a block of 512 bytes says. Bytes 0 and 1 are its place, byte 2 the count of its records, byte 3 the mark of
 -- the final block; its records stand from byte 4 on, and its check in the last two bytes.
-use Rattle.std.specs.Prelude.{ℕ, zero, suc, ◌+◌, ◌-◌, ◌*◌, ◌%◌, Bool, true, cond, not, ◌&&◌, ◌||◌, List, Ok, Err, Result, ◌==◌, nat_lt, slice_index}
+use Rattle.std.specs.Prelude.{ℕ, zero, suc, ◌+◌, ◌-◌, ◌*◌, ◌%◌, Bool, true, cond, not, ◌&&◌, ◌||◌, List, length, Ok, Err, Result, ◌==◌, nat_lt, slice_index}
 use Rattle.block.specs.declared.fault.BlockCause.TheVariants.{Check, Header, Padding}
 use Rattle.block.specs.declared.fault.BlockFault.{BlockFault}
 
@@ -8,6 +8,10 @@ use Rattle.block.specs.declared.fault.BlockFault.{BlockFault}
 abbrev pub weighted : List ℕ → ℕ → ℕ
 weighted bs zero = 0
 weighted bs (suc n) = weighted bs n + (n + 1) * slice_index bs n
+
+-- the check of some bytes: that sum over all of them, modulo 65,536
+unfoldable pub check_of : List ℕ → ℕ
+check_of bs = weighted bs (length bs) % 65536
 
 -- what the check has to be: that sum over all bytes before the check, modulo 65,536
 unfoldable pub check_sum : List ℕ → ℕ

@@ -1,8 +1,10 @@
 // What is wrong with a block.
-ghost use Rattle.std.specs.Prelude.{◌≡◌};
-ghost use Rattle.block.specs.Faults.{block_told};
+ghost use Rattle.std.specs.Prelude.{Some};
+ghost use Rattle.block.specs.Faults.{block_told, block_sentence};
 
-use label::{Diagnostic, Layer};
+use label::{Diagnostic, Fault, Layer};
+use std::error::Error;
+use std::fmt;
 
 // The check differs from the bytes; the place, the count or the mark of the final block is wrong; or a byte
 // after the last record is not 0.
@@ -20,10 +22,34 @@ pub struct BlockFault {
     pub byte: usize,
 }
 
-impl BlockFault {
-    pub fn diagnostic(&self) -> Diagnostic
-        ensures { result ≡ block_told self.now }
-    {
+impl fmt::Display for BlockFault {
+    ghost output = { λ e. Some (block_sentence e.cause e.byte) };
+
+    fn fmt<W: fmt::Write>(&self, f: &mut fmt::Formatter<W>) -> fmt::Result {
+        let byte = self.byte;
+        match self.cause {
+            BlockCause::Check => write!(
+                f,
+                "The file is damaged: the check of the block at byte {byte} does not fit its bytes"
+            ),
+            BlockCause::Header => write!(
+                f,
+                "The file is damaged: the block at byte {byte} has a wrong place, count of records or final mark"
+            ),
+            BlockCause::Padding => write!(
+                f,
+                "The file is damaged: the block at byte {byte} has a byte behind its records that is not 0"
+            ),
+        }
+    }
+}
+
+impl Error for BlockFault {}
+
+impl Fault for BlockFault {
+    ghost told = { block_told };
+
+    fn diagnostic(&self) -> Diagnostic {
         let number = match self.cause {
             BlockCause::Check => 2,
             BlockCause::Header => 3,

@@ -5,4 +5,4 @@ mod fault;
 mod verdict;
 
 pub use fault::{BlockCause, BlockFault};
-pub use verdict::check_block;
+pub use verdict::{check_block, check_sum};

@@ -1,9 +1,10 @@
 -- Reading a label from bytes, and writing it again.
-use Rattle.std.proofs.Common.{◌≡◌, ℕ, ◌&&◌, eqb, Bool, true, false, ◌↔◌, List, [], ◌∷◌, length, get_or, is_some, Some, None, Option, sym, refl, ap, ◌∙◌, ⊎_elim, true≢false, arith}
+use Rattle.std.proofs.Common.{◌≡◌, ℕ, ◌&&◌, Decides, eqb, Bool, true, false, ◌↔◌, List, [], ◌∷◌, length, get_or, is_some, Some, None, Option, sym, refl, ap, ◌∙◌, ⊎_elim, true≢false, arith}
 use mathlib.Core.Bool.{Bool-set}
 use Rattle.std.proofs.lemmas.Slice.Eq.{text_from_reads}
-use Rattle.std.proofs.lemmas.Bool.{cases_eq, and_parts, and_from, eqb-true, eq-eqb}
-use Rattle.label.specs.Labels.{bytes_of, label_of, passed, Shaped}
+use Rattle.std.proofs.lemmas.Bool.Decides.{Decides-at, Decides-and, Decides-like, Decides-eqb}
+use Rattle.std.proofs.lemmas.Bool.{cases_eq}
+use Rattle.label.specs.Labels.{bytes_of, label_of, passed, Shaped, ReadExactly, AllShaped}
 use Rattle.label.specs.Signs.{lawful}
 use Rattle.label.specs.declared.label.Label.{Label}
 use Rattle.label.proofs.Shapes.{lawful_shaped, shaped_lawful}
@@ -11,10 +12,6 @@ use Rattle.label.proofs.Shapes.{lawful_shaped, shaped_lawful}
 pub passed_true : {X : Type 0} (t : Bool) (f : t ≡ true → X) (e : t ≡ true) → Some (f e) ≡ passed t f
 passed_true true f e = ap (λ p. Some (f p)) (Bool-set true true e refl)
 passed_true false f e = absurd (true≢false (sym e))
-
-pub passed_false : {X : Type 0} (t : Bool) (f : t ≡ true → X) → t ≡ false → None ≡ passed t f
-passed_false true f e = absurd (true≢false e)
-passed_false false f e = refl
 
 passed_some : {X : Type 0} (t : Bool) (f : t ≡ true → X) (x : X) → passed t f ≡ Some x → (e : t ≡ true) × (f e ≡ x)
 passed_some true f x q = (refl, cc)
@@ -36,30 +33,17 @@ same_label_lem l m e =
     let r = ap label_of e in
     cc
 
-more_same : (a b : ℕ) (xs ys : List ℕ) (t : Bool) → (t ≡ true → xs ≡ ys) → (eqb a b && t) ≡ true → a ∷ xs ≡ b ∷ ys
-more_same a b xs ys t f h =
-    let p = and_parts (eqb a b) t h in
-    let q = eqb-true a b p.0 in
-    let r = f p.1 in
-    cc
-
 -- whether the eight bytes are the same tells whether the labels are
 pub same_bytes : (l m : Label) (r : Bool)
     → r ≡ (eqb l.b0 m.b0 && (eqb l.b1 m.b1 && (eqb l.b2 m.b2 && (eqb l.b3 m.b3 && (eqb l.b4 m.b4 && (eqb l.b5 m.b5 && (eqb l.b6 m.b6 && eqb l.b7 m.b7)))))))
-    → (r ≡ true → l ≡ m) × (l ≡ m → r ≡ true)
-same_bytes l m r e = (to, from)
-  where
-    to : r ≡ true → l ≡ m
-    to h = same_label_lem l m (more_same _ _ _ _ _ (more_same _ _ _ _ _ (more_same _ _ _ _ _ (more_same _ _ _ _ _ (more_same _ _ _ _ _
-        (more_same _ _ _ _ _ (more_same _ _ _ _ _ (λ k. ap (λ (x : ℕ). x ∷ []) (eqb-true l.b7 m.b7 k)))))))) (sym e ∙ h))
-
-    from : l ≡ m → r ≡ true
-    from q =
-        let s = λ (a b : ℕ) (h : a ≡ b). eq-eqb a b h in
-        e ∙ and_from _ _ (s l.b0 m.b0 (ap (λ (x : Label). x.b0) q)) (and_from _ _ (s l.b1 m.b1 (ap (λ (x : Label). x.b1) q))
-        (and_from _ _ (s l.b2 m.b2 (ap (λ (x : Label). x.b2) q)) (and_from _ _ (s l.b3 m.b3 (ap (λ (x : Label). x.b3) q))
-        (and_from _ _ (s l.b4 m.b4 (ap (λ (x : Label). x.b4) q)) (and_from _ _ (s l.b5 m.b5 (ap (λ (x : Label). x.b5) q))
-        (and_from _ _ (s l.b6 m.b6 (ap (λ (x : Label). x.b6) q)) (s l.b7 m.b7 (ap (λ (x : Label). x.b7) q))))))))
+    → Decides r (l ≡ m)
+same_bytes l m r e =
+    let d = λ (a b : ℕ). Decides-eqb a b in
+    Decides-at _ _ e (Decides-like _
+    (λ p. same_label_lem l m (cc))
+    (λ (q : l ≡ m). let s = λ (f : Label → ℕ). ap f q in (s (λ x. x.b0), (s (λ x. x.b1), (s (λ x. x.b2), (s (λ x. x.b3), (s (λ x. x.b4), (s (λ x. x.b5), (s (λ x. x.b6), s (λ x. x.b7)))))))))
+    (Decides-and _ _ (d l.b0 m.b0) (Decides-and _ _ (d l.b1 m.b1) (Decides-and _ _ (d l.b2 m.b2) (Decides-and _ _ (d l.b3 m.b3)
+    (Decides-and _ _ (d l.b4 m.b4) (Decides-and _ _ (d l.b5 m.b5) (Decides-and _ _ (d l.b6 m.b6) (d l.b7 m.b7)))))))))
 
 pub bytes_shaped : (l : Label) → Shaped (bytes_of l)
 bytes_shaped l = lawful_shaped (bytes_of l) refl l.ok
@@ -107,11 +91,19 @@ label_exact bs = (read, λ s. some_lawful bs s.eight ∙ shaped_lawful bs s)
         (λ (h : length bs ≡ 8 → ⊥). absurd (true≢false (sym q ∙ ap is_some (not_eight bs h))))
         (cases_eq (length bs) 8)
 
--- the two clauses of what reading ensures, where the eight bytes are read one by one
-pub read_is : (bs : List ℕ) (o : Option Label) → length bs ≡ 8
-    → o ≡ label_of (get_or bs 0 0 ∷ get_or bs 1 0 ∷ get_or bs 2 0 ∷ get_or bs 3 0 ∷ get_or bs 4 0 ∷ get_or bs 5 0 ∷ get_or bs 6 0 ∷ get_or bs 7 0 ∷ [])
-    → o ≡ label_of bs
-read_is bs o h e = e ∙ sym (ap label_of (eight bs h))
+-- lawful bytes are lawful one by one
+pub eight_lawful : (bs : List ℕ) → length bs ≡ 8 → lawful bs ≡ true
+    → lawful (get_or bs 0 0 ∷ get_or bs 1 0 ∷ get_or bs 2 0 ∷ get_or bs 3 0 ∷ get_or bs 4 0 ∷ get_or bs 5 0 ∷ get_or bs 6 0 ∷ get_or bs 7 0 ∷ []) ≡ true
+eight_lawful bs h e = sym (ap lawful (eight bs h)) ∙ e
 
-pub read_exact : (bs : List ℕ) (o : Option Label) → o ≡ label_of bs → (is_some o ≡ true) ↔ Shaped bs
-read_exact bs o e = rw e (label_exact bs)
+-- the label whose bytes are these eight is read
+pub found : (bs : List ℕ) (l : Label) → length bs ≡ 8
+    → bytes_of l ≡ get_or bs 0 0 ∷ get_or bs 1 0 ∷ get_or bs 2 0 ∷ get_or bs 3 0 ∷ get_or bs 4 0 ∷ get_or bs 5 0 ∷ get_or bs 6 0 ∷ get_or bs 7 0 ∷ []
+    → Some l ≡ label_of bs
+found bs l h e = sym (read_written l) ∙ ap label_of (e ∙ sym (eight bs h))
+
+pub read_exact : (bs : List ℕ) (o : Option Label) → o ≡ label_of bs → ReadExactly bs o
+read_exact bs o e = let both = label_exact bs in record { shaped = λ q. both.0 (sym (ap is_some e) ∙ q); whole = λ s. ap is_some e ∙ both.1 s }
+
+pub all_shaped : AllShaped
+all_shaped = record { every = bytes_shaped }

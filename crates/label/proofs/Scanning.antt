@@ -1,5 +1,5 @@
 -- A scan ends well just where the bytes are lawful.
-use Rattle.std.proofs.Common.{◌≡◌, ℕ, Bool, true, false, cond, ◌&&◌, List, [], ◌∷◌, fold, sym, refl, ap, ◌∙◌}
+use Rattle.std.proofs.Common.{◌≡◌, ℕ, Bool, true, false, cond, ◌&&◌, List, [], ◌∷◌, fold, refl}
 use Rattle.label.specs.Scans.{next, ends}
 use Rattle.label.specs.Signs.{sign, blank, blanks, signs_then_blanks, lawful}
 use Rattle.label.specs.declared.scan.Scan.{Scan}
@@ -31,19 +31,10 @@ ended_signs (b ∷ bs) = way (sign b) (blank b) (ended_signs bs)
     way false true rest = ended_blanks bs
     way false false rest = ended_broken bs
 
-pub scan_lawful : (bs : List ℕ) → ended Start bs ≡ lawful bs
+pub scan_lawful : (bs : List ℕ) → ends (fold next Start bs) ≡ lawful bs
 scan_lawful [] = refl
 scan_lawful (b ∷ bs) = way (sign b)
   where
     way : (s : Bool) → ended (cond s Signs Broken) bs ≡ (s && signs_then_blanks bs)
     way true = ended_signs bs
     way false = ended_broken bs
-
--- the eight steps of a scan, one after the other
-pub scanned_lawful : (b0 b1 b2 b3 b4 b5 b6 b7 : ℕ) (s0 s1 s2 s3 s4 s5 s6 s7 : Scan) (r : Bool)
-    → s0 ≡ next Start b0 → s1 ≡ next s0 b1 → s2 ≡ next s1 b2 → s3 ≡ next s2 b3
-    → s4 ≡ next s3 b4 → s5 ≡ next s4 b5 → s6 ≡ next s5 b6 → s7 ≡ next s6 b7
-    → r ≡ ends s7 → lawful (b0 ∷ b1 ∷ b2 ∷ b3 ∷ b4 ∷ b5 ∷ b6 ∷ b7 ∷ []) ≡ r
-scanned_lawful b0 b1 b2 b3 b4 b5 b6 b7 s0 s1 s2 s3 s4 s5 s6 s7 r p0 p1 p2 p3 p4 p5 p6 p7 q =
-    let all : s7 ≡ next (next (next (next (next (next (next (next Start b0) b1) b2) b3) b4) b5) b6) b7 = cc in
-    sym (scan_lawful (b0 ∷ b1 ∷ b2 ∷ b3 ∷ b4 ∷ b5 ∷ b6 ∷ b7 ∷ [])) ∙ sym (ap ends all) ∙ sym q

@@ -6,5 +6,5 @@ mod fault;
 mod label;
 mod scan;
 
-pub use fault::{Diagnostic, Layer, TextFault};
+pub use fault::{Diagnostic, Fault, Layer, TextFault};
 pub use label::Label;

@@ -1,6 +1,7 @@
 // Where a scan of a label's bytes stands.
-ghost use Rattle.std.specs.Prelude.{◌≡◌};
+ghost use Rattle.std.specs.Prelude.{◌≡◌, fold};
 ghost use Rattle.label.specs.Scans.{next, ends};
+ghost use Rattle.label.specs.declared.scan.Scan.TheVariants.{Start};
 
 #[derive(Clone, Copy)]
 pub enum Scan {
@@ -26,6 +27,15 @@ impl Scan {
             b' ' if signs_begun => Scan::Blanks,
             _ => Scan::Broken,
         }
+    }
+
+    // Where a scan of the bytes ends.
+    pub fn over(bytes: &[u8]) -> Scan
+        ensures { result ≡ fold next Start bytes.now }
+    {
+        bytes
+            .iter()
+            .fold(Scan::Start, |scan, byte| scan.after(*byte))
     }
 
     // Whether the bytes so far are a label.

@@ -1,4 +1,4 @@
-use Rattle.std.proofs.Common.{◌<◌, ◌≤◌, length, get_or, take, is_ok, Ok, refl, ap, ◌∙◌, arith, take_all}
+use Rattle.std.proofs.Common.{◌<◌, length, get_or, take, is_ok, Ok, refl, ap, arith}
 use Rattle.std.proofs.Output.{has_written_append, has_written_of_eq}
 use Rattle.label.specs.Shown.{shown_byte, shown_bytes}
 use Rattle.label.proofs.Showing.{shown_more}
@@ -13,11 +13,3 @@ loop-b-preserved g c plain e =
     let lt : c.loop-b.b-index < length c.bytes-bytes.result = omega (arith, ap length c.bytes-bytes.ensures.value) in
     has_written_of_eq g.W.Write.write_str_gives _ _ _ _ (shown_more bs i lt)
     (has_written_append g.W.Write.write_str_gives _ (shown_bytes (take i bs)) _ (shown_byte (get_or bs i 0)) _ before here)
-
-pub returns-clause-writes : goal.returns-clause-writes
-returns-clause-writes g c plain e =
-    let bs = c.bytes-bytes.result in
-    let le : length c.bytes-bytes.result ≤ c.loop-b.b-index = omega (arith, ap length c.bytes-bytes.ensures.value) in
-    has_written_of_eq g.W.Write.write_str_gives _ _ _ _
-    (ap shown_bytes (take_all _ _ le ∙ c.bytes-bytes.ensures.value))
-    (c.loop-b.invariant plain refl)
