@@ -9,7 +9,7 @@ use Rattle.std.proofs.lemmas.List.{get_or_past}
 use Rattle.std.proofs.lemmas.Bool.{cases_lt, cases_order, true≢false, false≢true, ltb-true, lt-ltb, and_parts, and_cases, or_from, or_left, or_right, not-true, not-false, not_from_true, not_from_false}
 use Rattle.slot.specs.Positions.{number_of, position_at, position_coding}
 use Rattle.slot.specs.declared.position.Position.{Position}
-use Rattle.slot.proofs.Laws.{position_lawful}
+use Rattle.slot.specs.Laws.{position_lawful}
 use Rattle.slot.specs.PositionsLemmas.{position_at_lem}
 use Rattle.wire.specs.Boxes.{Box}
 use Rattle.wire.specs.Runs.{Takes}

@@ -3,7 +3,7 @@ use Rattle.std.specs.Prelude.{◌≡◌, ℕ, ◌≤◌, Some}
 use Rattle.std.proofs.Common.{arith}
 use Rattle.slot.specs.Positions.{number_of, position_near, position_bytes, position_coding}
 use Rattle.slot.specs.declared.position.Position.{Position}
-use Rattle.slot.proofs.Laws.{position_lawful}
+use Rattle.slot.specs.Laws.{position_lawful}
 use Rattle.wire.specs.Slots.{slot_from}
 use Rattle.wire.proofs.Slotted.{slotted-read}
 

@@ -10,10 +10,6 @@ pub record Coding (K : Type 0) : Type 0 where
   -- a missing slot's bytes
   pub blank : List ℕ
 
--- the coding of a kind, from the four members of `Kind`
-abbrev pub coding_of : {K : Type 0} → ℕ → (List ℕ → Option K) → (K → List ℕ) → List ℕ → Coding K
-coding_of w r e b = record { wide = w; reads = r; writes = e; blank = b }
-
 -- What every kind owes: a value that is written is read again, a missing slot reads as missing, and all slots have one
 -- width, of 1 to 8 bytes.
 pub record Lawful {K : Type 0} (c : Coding K) : Type 0 where

@@ -1,5 +1,6 @@
 pub mod Codings
 pub mod Labels
+pub mod Laws
 pub mod Positions
 pub mod PositionsLemmas
 pub mod Ranges

@@ -16,6 +16,10 @@ position_at n = passed (in_range n) (λ p. record { value = n; ok = p })
 abbrev pub position_near : ℕ → Position
 position_near n = record { value = cut 2047 n; ok = cut_in_range n }
 
+-- the position in 1 to the span whose number is nearest
+abbrev pub position_within : Position → ℕ → Position
+position_within span n = position_near (cut (number_of span) n)
+
 -- the position in two bytes; 0, a number above 2,047 and any other count of bytes are none
 abbrev pub position_of : List ℕ → Option Position
 position_of [] = None

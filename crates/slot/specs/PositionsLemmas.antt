@@ -1,4 +1,4 @@
--- What the laws of `Kind` at positions cite.
+-- What positions owe as a kind of value, and what is said of two of them.
 use Rattle.std.specs.Prelude.{◌≡◌, ◌+◌, ◌*◌, ◌/◌, ◌%◌, Bool, Some, Decides}
 use Rattle.std.proofs.Common.{sym, ap, ◌∙◌, eqb, arith}
 use Rattle.std.proofs.lemmas.Bool.{eqb-true, eq-eqb}

@@ -1,11 +1,12 @@
 // A kind of value: how wide its slot is, and how a slot is read and written.
-ghost use Rattle.std.specs.Prelude.{◌≡◌, ℕ, ◌<◌, ◌≤◌, Bool, List, [], ◌∷◌, length, Some, None, Decides, Option};
-ghost use Rattle.std.proofs.Common.{rules};
-ghost use Rattle.label.specs.Labels.{bytes_of, label_of};
-ghost use Rattle.slot.specs.Positions.{position_of, position_bytes};
+ghost use Rattle.std.specs.Prelude.{◌≡◌, Bool, Decides};
+ghost use Rattle.slot.specs.Codings.{Coding, Lawful};
+ghost use Rattle.slot.specs.Labels.{label_coding};
+ghost use Rattle.slot.specs.Positions.{position_coding};
 ghost use Rattle.slot.specs.Slots.{laid};
-ghost use Rattle.label.proofs.Reading.{read_written, same_bytes};
-ghost use Rattle.slot.specs.PositionsLemmas.{read_written as position_read_written, same_number};
+ghost use Rattle.label.proofs.Reading.{same_bytes};
+ghost use Rattle.slot.specs.PositionsLemmas.{same_number};
+ghost use Rattle.slot.specs.Laws.{label_lawful, position_lawful};
 
 use crate::laying::lay;
 use crate::position::Position;
@@ -15,72 +16,40 @@ pub trait Kind: Sized + Copy + PartialEq {
     // The width of a slot in bytes.
     const WIDTH: usize;
 
-    ghost wide: { ℕ };
-
-    // The value in a slot's bytes; none where the slot is missing.
-    ghost reads: { List ℕ → Option Self };
-
-    ghost writes: { Self → List ℕ };
-
-    // A missing slot's bytes.
-    ghost blank: { List ℕ };
+    // How the values stand in slots.
+    ghost coding: { Coding Self };
 
     // The width again, as a call that a contract can speak of.
     fn slot_width() -> usize
-        ensures { result ≡ wide };
+        ensures { result ≡ coding.wide };
 
     // The value in a slot's bytes.
     fn read(bytes: &[u8]) -> Option<Self>
-        ensures { result ≡ reads bytes.now };
+        ensures { result ≡ coding.reads bytes.now };
 
     // Writes the value's slot at the start, where there is room for it, and keeps the bytes behind it.
     fn write(self, out: &mut [u8])
-        ensures { out.new ≡ laid (writes self) out.old };
+        ensures { out.new ≡ laid (coding.writes self) out.old };
 
     // Writes a missing slot likewise.
     fn write_missing(out: &mut [u8])
-        ensures { out.new ≡ laid blank out.old };
+        ensures { out.new ≡ laid coding.blank out.old };
 
-    ghost missing: { reads blank ≡ None };
+    ghost lawful: { Lawful coding };
 
-    ghost empty: { length blank ≡ wide };
-
+    // `==` tells whether two values are the same.
     ghost equal: { (x y : Self) (r : Bool) → (r ≡ Self.PartialEq.eq x y) → Decides r (x ≡ y) };
-
-    ghost written: { (x : Self) → reads (writes x) ≡ Some x };
-
-    ghost long: { (x : Self) → length (writes x) ≡ wide };
-
-    ghost some: { 1 ≤ wide };
-
-    ghost narrow: { wide ≤ 8 };
 }
 
 // A label's slot is its eight bytes, and missing as eight blanks.
 impl Kind for Label {
     const WIDTH: usize = 8;
 
-    ghost wide = { 8 };
+    ghost coding = { label_coding };
 
-    ghost reads = { label_of };
-
-    ghost writes = { bytes_of };
-
-    ghost blank = { 32 ∷ 32 ∷ 32 ∷ 32 ∷ 32 ∷ 32 ∷ 32 ∷ 32 ∷ [] };
-
-    ghost missing = { Prim.search rules };
-
-    ghost empty = { Prim.search rules };
+    ghost lawful = { label_lawful };
 
     ghost equal = { same_bytes };
-
-    ghost written = { read_written };
-
-    ghost long = { Prim.search rules };
-
-    ghost some = { Prim.search rules };
-
-    ghost narrow = { Prim.search rules };
 
     fn slot_width() -> usize {
         Self::WIDTH
@@ -103,42 +72,25 @@ impl Kind for Label {
 impl Kind for Position {
     const WIDTH: usize = 2;
 
-    ghost wide = { 2 };
+    ghost coding = { position_coding };
 
-    ghost reads = { position_of };
-
-    ghost writes = { position_bytes };
-
-    ghost blank = { 0 ∷ 0 ∷ [] };
-
-    ghost missing = { Prim.search rules };
-
-    ghost empty = { Prim.search rules };
+    ghost lawful = { position_lawful };
 
     ghost equal = { same_number };
-
-    ghost written = { position_read_written };
-
-    ghost long = { Prim.search rules };
-
-    ghost some = { Prim.search rules };
-
-    ghost narrow = { Prim.search rules };
 
     fn slot_width() -> usize {
         Self::WIDTH
     }
 
     fn read(bytes: &[u8]) -> Option<Position> {
-        if bytes.len() != 2 {
+        let [high, low] = bytes else {
             return None;
-        }
-        Position::new(256 * bytes[0] as usize + bytes[1] as usize)
+        };
+        Position::new(usize::from(u16::from_be_bytes([*high, *low])))
     }
 
     fn write(self, out: &mut [u8]) {
-        let number = self.number();
-        lay(&[(number / 256) as u8, (number % 256) as u8], out)
+        lay(&(self.number() as u16).to_be_bytes(), out)
     }
 
     fn write_missing(out: &mut [u8]) {

@@ -3,6 +3,7 @@ ghost use Rattle.std.specs.Prelude.{◌≡◌, true};
 ghost use Rattle.slot.specs.Ranges.{in_range};
 
 mod ops;
+mod show;
 
 #[derive(Clone, Copy, PartialEq, Eq)]
 pub struct Position {

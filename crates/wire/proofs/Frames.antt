@@ -1,11 +1,12 @@
 -- Frames and tables of frames.
-use Rattle.std.proofs.Common.{◌≡◌, ℕ, zero, suc, ◌+◌, ◌-◌, ◌*◌, ◌<◌, ◌≤◌, ◌&&◌, eqb, ltb, leb, List, [], ◌∷◌, ◌++◌, map, length, get_or, take, drop, None, Option, sym, refl, ap, ◌∙◌, mul-le-mul_right, mul-le-mul_left, mul-suc, arith, length-take, length-take-le, take-take, take_at}
+use Rattle.std.proofs.Common.{◌≡◌, ℕ, zero, suc, ◌+◌, ◌-◌, ◌*◌, ◌<◌, ◌≤◌, ◌&&◌, eqb, ltb, leb, List, [], ◌∷◌, ◌++◌, map, length, get_or, take, drop, set, Some, None, Option, sym, refl, ap, ◌∙◌, mul-le-mul_right, mul-le-mul_left, mul-suc, arith, length-take, length-take-le, take-take, take_at}
+use Rattle.std.proofs.lemmas.List.{map-set, set_past, length-map}
 use Rattle.std.proofs.lemmas.Slice.{between_is}
 use Rattle.std.proofs.lemmas.Bool.{and_from, and_right, cond-true, cond-false, eq-eqb, ne_eqb, lt-ltb, le-leb, lt-leb}
 use Rattle.slot.specs.Codings.{Coding, Lawful}
 use Rattle.slot.specs.Slots.{laid}
 use Rattle.wire.specs.Boxes.{from}
-use Rattle.wire.specs.Frames.{framed, sent}
+use Rattle.wire.specs.Frames.{carried, framed, sent}
 use Rattle.wire.specs.Slots.{slot_of}
 use Rattle.wire.specs.declared.frame.Frame.{Frame}
 
@@ -18,6 +19,14 @@ laid_front bytes out h =
 pub framed_short : (bytes : List ℕ) → length bytes ≤ 128 → framed bytes ≡ bytes
 framed_short bytes h = cond-true (leb (length bytes) 128) bytes [] (le-leb (length bytes) 128 h)
 
+-- a buffer that bytes were laid into, up to their length
+pub framed_front : (bytes out : List ℕ) → length out ≡ 128 → length bytes ≤ 128 → take (length bytes) (laid bytes out) ≡ framed bytes
+framed_front bytes out size h = laid_front bytes out (omega arith) ∙ sym (framed_short bytes h)
+
+-- and up to a number that is their length
+pub written_front : (bytes out : List ℕ) (w : ℕ) → length bytes ≡ w → length bytes ≤ length out → take w (laid bytes out) ≡ bytes
+written_front bytes out w e h = ap (λ k. take k (laid bytes out)) (sym e) ∙ laid_front bytes out h
+
 pub framed_long : (bytes : List ℕ) → 128 < length bytes → framed bytes ≡ []
 framed_long bytes h = cond-false (leb (length bytes) 128) bytes [] (lt-leb (length bytes) 128 h)
 
@@ -26,6 +35,14 @@ pub from_place : (fs : List (Option Frame)) (i : ℕ) (f : Option Frame) → i <
 from_place [] i f h e = absurd (omega arith)
 from_place (x ∷ fs) zero f h e = ap sent (sym e)
 from_place (x ∷ fs) (suc i) f h e = from_place fs i f (omega arith) e
+
+-- a frame put at a place, and at none
+pub put_place : (fs : List (Option Frame)) (i : ℕ) (f : Frame) (bytes : List ℕ) → carried f ≡ framed bytes
+    → map sent (set fs i (Some f)) ≡ set (map sent fs) i (Some (framed bytes))
+put_place fs i f bytes e = map-set sent fs i (Some f) ∙ ap (λ b. set (map sent fs) i (Some b)) e
+
+pub put_past : (fs : List (Option Frame)) (i : ℕ) (b : Option (List ℕ)) → length fs ≤ i → map sent fs ≡ set (map sent fs) i b
+put_past fs i b h = sym (set_past (map sent fs) i b (omega (arith, length-map fs sent)))
 
 -- a slot ends within its frame
 pub slot_ends : (w s n : ℕ) → s < n → w * s + w ≤ w * n
@@ -63,3 +80,10 @@ module _ {K : Type 0} (c : Coding K) (n s len : ℕ) (bytes : List ℕ) (long : 
       ap c.reads (same ∙ ap (λ k. take k (drop (w * s) (take len bytes))) size)
       ∙ sym (cond-true (ltb s n && eqb (length (take len bytes)) (w * n)) (c.reads (take w (drop (w * s) (take len bytes)))) None
       (and_from (ltb s n) (eqb (length (take len bytes)) (w * n)) (lt-ltb s n within) (eq-eqb _ _ whole)))
+
+-- the same for a number that is the width
+pub slot_read : {K : Type 0} (c : Coding K) (n s len v : ℕ) (bytes : List ℕ) → v ≡ c.wide → length bytes ≡ 128 → len ≤ 128 → len ≡ v * n → s < n
+    → c.reads (take ((v * s + v) - v * s) (drop (v * s) bytes)) ≡ slot_of c n s (take len bytes)
+slot_read c n s len v bytes e long short full within =
+    ap (λ w. c.reads (take ((w * s + w) - w * s) (drop (w * s) bytes))) e
+    ∙ slot_is c n s len bytes long short (full ∙ ap (λ w. w * n) e) within

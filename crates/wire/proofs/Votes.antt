@@ -1,6 +1,7 @@
 -- Counting and voting.
 use Rattle.std.proofs.Common.{◌≡◌, ℕ, suc, ◌+◌, ◌-◌, ◌<◌, ◌≤◌, Bool, true, false, cond, not, leb, ◌⊎◌, List, [], ◌∷◌, map, length, is_some, Some, None, Decides, count_by, Option, sym, refl, ap, ◌∙◌, inl, inr, ⊎_elim, true≢false, arith}
 use Rattle.std.specs.List.{range_with_len}
+use Rattle.std.specs.Option.{option_eq}
 use Rattle.std.specs.Str.{bytes_eq}
 use Rattle.std.proofs.lemmas.List.FromFn.{sum_by-map-range_with_len_more}
 use Rattle.std.proofs.lemmas.Slice.Eq.{bytes_eq-Decides}
@@ -43,6 +44,11 @@ module _ {K : Type 0} (c : Coding K) (l : Lawful c) where
   pub same_is : (x y : K) (r : Bool) → Decides r (x ≡ y) → r ≡ bytes_eq (c.writes x) (c.writes y)
   same_is x y r h = same_from_decides r (bytes_eq (c.writes x) (c.writes y)) h
       (Decides-like (bytes_eq (c.writes x) (c.writes y)) (writes_apart x y) (ap c.writes) (bytes_eq-Decides (c.writes x) (c.writes y)))
+
+  -- and slots by them
+  pub same_option : (eq : K → K → Bool) → ((x y : K) (r : Bool) → r ≡ eq x y → Decides r (x ≡ y)) → (v : K) (o : Option K) → option_eq eq o (Some v) ≡ holds c v o
+  same_option eq h v None = refl
+  same_option eq h v (Some w) = same_is w v (eq w v) (h w v (eq w v) refl)
 
   pub cases_same : (v w : K) → (v ≡ w) ⊎ (v ≡ w → ⊥)
   cases_same v w =

@@ -1,6 +1,5 @@
 // The calls of a grading.
 ghost use Rattle.std.specs.Prelude.{◌≡◌};
-ghost use Rattle.slot.specs.Codings.{coding_of};
 ghost use Rattle.wire.specs.Frames.{carried, box_of};
 ghost use Rattle.wire.specs.Slots.{column};
 ghost use Rattle.grading.specs.Exchanges.{GradedBroadcast};
@@ -16,8 +15,8 @@ use wire::{Crew, Frame, Inbox};
 
 // The grade of sender `s` by the round-3 frames in the table.
 pub fn grade_sender<K: Kind>(crew: Crew, inbox: &Inbox, s: usize) -> Grade<K>
-    ensures value { result ≡ grade_by (coding_of K.wide K.reads K.writes K.blank) crew.n crew.t (box_of inbox.now) s }
-    ensures counted { let k = coding_of K.wide K.reads K.writes K.blank in GradedBy k crew.n crew.t (column k crew.n s (box_of inbox.now)) result }
+    ensures value { result ≡ grade_by K.coding crew.n crew.t (box_of inbox.now) s }
+    ensures counted { GradedBy K.coding crew.n crew.t (column K.coding crew.n s (box_of inbox.now)) result }
 {
     grade_by::<K>(crew, inbox, s)
 }
@@ -62,34 +61,34 @@ impl<K: Kind> Grading<K> {
 
     // The frame of the next round; of no bytes past the third.
     pub fn frame(&self) -> Frame
-        ensures bytes { carried result ≡ frame_of (coding_of K.wide K.reads K.writes K.blank) self.now }
-        ensures rounds { ByRounds (coding_of K.wide K.reads K.writes K.blank) }
-        ensures broadcast { GradedBroadcast (coding_of K.wide K.reads K.writes K.blank) }
+        ensures bytes { carried result ≡ frame_of K.coding self.now }
+        ensures rounds { ByRounds K.coding }
+        ensures broadcast { GradedBroadcast K.coding }
     {
         next_frame(self)
     }
 
     // Ends a round with the frames that came, the own one among them; past the third nothing changes.
     pub fn step(&mut self, inbox: &Inbox)
-        ensures state { self.new ≡ after (coding_of K.wide K.reads K.writes K.blank) self.old (box_of inbox.now) }
-        ensures rounds { ByRounds (coding_of K.wide K.reads K.writes K.blank) }
-        ensures broadcast { GradedBroadcast (coding_of K.wide K.reads K.writes K.blank) }
+        ensures state { self.new ≡ after K.coding self.old (box_of inbox.now) }
+        ensures rounds { ByRounds K.coding }
+        ensures broadcast { GradedBroadcast K.coding }
     {
         *self = next_state(self, inbox);
     }
 
     // The grade of sender `s`; grade 0 until the third round has ended, and past the last sender.
     pub fn grade(&self, s: usize) -> Grade<K>
-        ensures value { result ≡ grade_at (coding_of K.wide K.reads K.writes K.blank) self.now s }
-        ensures rounds { ByRounds (coding_of K.wide K.reads K.writes K.blank) }
-        ensures broadcast { GradedBroadcast (coding_of K.wide K.reads K.writes K.blank) }
+        ensures value { result ≡ grade_at K.coding self.now s }
+        ensures rounds { ByRounds K.coding }
+        ensures broadcast { GradedBroadcast K.coding }
     {
         kept_grade(self, s)
     }
 
     // Another grading with this own value, which distrusts whom this one distrusts and each sender of grade 0 or 1.
     pub fn again(&self, own: K) -> Grading<K>
-        ensures { result ≡ begun self.now.crew own (distrusted_after (coding_of K.wide K.reads K.writes K.blank) self.now) }
+        ensures { result ≡ begun self.now.crew own (distrusted_after K.coding self.now) }
     {
         Grading::start(Self::crew(self), own, next_distrusted(self))
     }

@@ -1,6 +1,5 @@
 // The work behind the calls of a grading.
 ghost use Rattle.std.specs.Prelude.{◌≡◌, ◌*◌, ◌<◌, false, ◌++◌, length, take, drop, if◌then◌else◌, None, slice_index_or};
-ghost use Rattle.slot.specs.Codings.{coding_of};
 ghost use Rattle.wire.specs.Frames.{carried, box_of};
 ghost use Rattle.wire.specs.Slots.{slotted, column};
 ghost use Rattle.grading.specs.Exchanges.{GradedBroadcast};
@@ -15,7 +14,7 @@ use wire::{Crew, Frame, Inbox, write_slot};
 
 // The grade of sender `s` by the round-3 frames.
 fn grade_from<K: Kind>(crew: Crew, inbox: &Inbox, s: usize) -> Grade<K>
-    ensures { result ≡ grade_by (coding_of K.wide K.reads K.writes K.blank) crew.n crew.t (box_of inbox.now) s }
+    ensures { result ≡ grade_by K.coding crew.n crew.t (box_of inbox.now) s }
 {
     let n = crew.units();
     let t = crew.faulty();
@@ -42,7 +41,7 @@ fn unless_distrusted<K: Kind>(grading: &Grading<K>, s: usize, slot: Option<K>) -
 // What the slot of sender `s` holds after a round.
 fn next_slot<K: Kind>(grading: &Grading<K>, inbox: &Inbox, s: usize) -> Option<K>
     requires { s < 16 }
-    ensures { result ≡ slot_after (coding_of K.wide K.reads K.writes K.blank) grading.now (box_of inbox.now) grading.now.stage s }
+    ensures { result ≡ slot_after K.coding grading.now (box_of inbox.now) grading.now.stage s }
 {
     let n = grading.crew.units();
     let quorum = n - grading.crew.faulty();
@@ -57,7 +56,7 @@ fn next_slot<K: Kind>(grading: &Grading<K>, inbox: &Inbox, s: usize) -> Option<K
 // Writes the slots after a round into a table of 128 bytes.
 fn fill_table<K: Kind>(grading: &Grading<K>, inbox: &Inbox, table: &mut [u8])
     requires { length table.old ≡ 128 }
-    ensures { let k = coding_of K.wide K.reads K.writes K.blank in table.new ≡ slotted k (slot_after k grading.now (box_of inbox.now) grading.now.stage) grading.now.crew.n ++ drop (K.wide * grading.now.crew.n) table.old }
+    ensures { table.new ≡ slotted K.coding (slot_after K.coding grading.now (box_of inbox.now) grading.now.stage) grading.now.crew.n ++ drop (K.coding.wide * grading.now.crew.n) table.old }
 {
     let width = K::slot_width();
     let n = grading.crew.units();
@@ -70,7 +69,7 @@ fn fill_table<K: Kind>(grading: &Grading<K>, inbox: &Inbox, table: &mut [u8])
 
 // The table after a round.
 fn next_table<K: Kind>(grading: &Grading<K>, inbox: &Inbox) -> [u8; 128]
-    ensures { let k = coding_of K.wide K.reads K.writes K.blank in result ≡ tabled k (slot_after k grading.now (box_of inbox.now) grading.now.stage) grading.now.crew.n }
+    ensures { result ≡ tabled K.coding (slot_after K.coding grading.now (box_of inbox.now) grading.now.stage) grading.now.crew.n }
 {
     let mut table = [0u8; 128];
     fill_table(grading, inbox, &mut table);
@@ -90,7 +89,7 @@ fn is_sure<K: Kind>(grade: Grade<K>) -> bool
 
 // Which senders have grade 2 by the round-3 frames.
 fn sure_marks<K: Kind>(crew: Crew, inbox: &Inbox) -> [bool; 16]
-    ensures { result ≡ sure_marks (coding_of K.wide K.reads K.writes K.blank) crew.n crew.t (box_of inbox.now) }
+    ensures { result ≡ sure_marks K.coding crew.n crew.t (box_of inbox.now) }
 {
     let mut marks = [false; 16];
     for s in 0..16usize {
@@ -101,7 +100,7 @@ fn sure_marks<K: Kind>(crew: Crew, inbox: &Inbox) -> [bool; 16]
 
 // The state after a round, by the stage.
 fn state_after<K: Kind>(grading: &Grading<K>, inbox: &Inbox) -> Grading<K>
-    ensures { result ≡ after (coding_of K.wide K.reads K.writes K.blank) grading.now (box_of inbox.now) }
+    ensures { result ≡ after K.coding grading.now (box_of inbox.now) }
 {
     let mut next = *grading;
     match grading.stage {
@@ -125,7 +124,7 @@ fn state_after<K: Kind>(grading: &Grading<K>, inbox: &Inbox) -> Grading<K>
 
 // The frame of one slot with the own value.
 fn own_frame<K: Kind>(own: K) -> Frame
-    ensures { carried result ≡ K.writes own }
+    ensures { carried result ≡ K.coding.writes own }
 {
     let mut slot = [0u8; 8];
     own.write(&mut slot);
@@ -134,7 +133,7 @@ fn own_frame<K: Kind>(own: K) -> Frame
 
 // The frame of the slots in the table.
 fn table_frame<K: Kind>(grading: &Grading<K>) -> Frame
-    ensures { carried result ≡ take (K.wide * grading.now.crew.n) grading.now.table }
+    ensures { carried result ≡ take (K.coding.wide * grading.now.crew.n) grading.now.table }
 {
     let len = K::slot_width() * grading.crew.units();
     Frame::new(&grading.table[0..len])
@@ -142,7 +141,7 @@ fn table_frame<K: Kind>(grading: &Grading<K>) -> Frame
 
 // The frame of the next round, by the stage.
 fn stage_frame<K: Kind>(grading: &Grading<K>) -> Frame
-    ensures { carried result ≡ frame_of (coding_of K.wide K.reads K.writes K.blank) grading.now }
+    ensures { carried result ≡ frame_of K.coding grading.now }
 {
     match grading.stage {
         Stage::Sending => own_frame(grading.own),
@@ -154,7 +153,7 @@ fn stage_frame<K: Kind>(grading: &Grading<K>) -> Frame
 
 // The grade of sender `s` that is kept in the table.
 fn table_grade<K: Kind>(grading: &Grading<K>, s: usize) -> Grade<K>
-    ensures { result ≡ grade_at (coding_of K.wide K.reads K.writes K.blank) grading.now s }
+    ensures { result ≡ grade_at K.coding grading.now s }
 {
     let n = grading.crew.units();
     match grading.stage {
@@ -172,7 +171,7 @@ fn table_grade<K: Kind>(grading: &Grading<K>, s: usize) -> Grade<K>
 
 // Whom a unit distrusts after a grading.
 pub(super) fn next_distrusted<K: Kind>(grading: &Grading<K>) -> [bool; 16]
-    ensures { result ≡ distrusted_after (coding_of K.wide K.reads K.writes K.blank) grading.now }
+    ensures { result ≡ distrusted_after K.coding grading.now }
 {
     let mut marks = [false; 16];
     for s in 0..16usize {
@@ -185,32 +184,32 @@ pub(super) fn next_distrusted<K: Kind>(grading: &Grading<K>) -> [bool; 16]
 // The four below have the clauses of the public calls above them, and with them the laws.
 
 pub(super) fn grade_by<K: Kind>(crew: Crew, inbox: &Inbox, s: usize) -> Grade<K>
-    ensures value { result ≡ grade_by (coding_of K.wide K.reads K.writes K.blank) crew.n crew.t (box_of inbox.now) s }
-    ensures counted { let k = coding_of K.wide K.reads K.writes K.blank in GradedBy k crew.n crew.t (column k crew.n s (box_of inbox.now)) result }
+    ensures value { result ≡ grade_by K.coding crew.n crew.t (box_of inbox.now) s }
+    ensures counted { GradedBy K.coding crew.n crew.t (column K.coding crew.n s (box_of inbox.now)) result }
 {
     grade_from::<K>(crew, inbox, s)
 }
 
 pub(super) fn next_frame<K: Kind>(grading: &Grading<K>) -> Frame
-    ensures bytes { carried result ≡ frame_of (coding_of K.wide K.reads K.writes K.blank) grading.now }
-    ensures rounds { ByRounds (coding_of K.wide K.reads K.writes K.blank) }
-    ensures broadcast { GradedBroadcast (coding_of K.wide K.reads K.writes K.blank) }
+    ensures bytes { carried result ≡ frame_of K.coding grading.now }
+    ensures rounds { ByRounds K.coding }
+    ensures broadcast { GradedBroadcast K.coding }
 {
     stage_frame(grading)
 }
 
 pub(super) fn next_state<K: Kind>(grading: &Grading<K>, inbox: &Inbox) -> Grading<K>
-    ensures state { result ≡ after (coding_of K.wide K.reads K.writes K.blank) grading.now (box_of inbox.now) }
-    ensures rounds { ByRounds (coding_of K.wide K.reads K.writes K.blank) }
-    ensures broadcast { GradedBroadcast (coding_of K.wide K.reads K.writes K.blank) }
+    ensures state { result ≡ after K.coding grading.now (box_of inbox.now) }
+    ensures rounds { ByRounds K.coding }
+    ensures broadcast { GradedBroadcast K.coding }
 {
     state_after(grading, inbox)
 }
 
 pub(super) fn kept_grade<K: Kind>(grading: &Grading<K>, s: usize) -> Grade<K>
-    ensures value { result ≡ grade_at (coding_of K.wide K.reads K.writes K.blank) grading.now s }
-    ensures rounds { ByRounds (coding_of K.wide K.reads K.writes K.blank) }
-    ensures broadcast { GradedBroadcast (coding_of K.wide K.reads K.writes K.blank) }
+    ensures value { result ≡ grade_at K.coding grading.now s }
+    ensures rounds { ByRounds K.coding }
+    ensures broadcast { GradedBroadcast K.coding }
 {
     table_grade(grading, s)
 }

@@ -10,10 +10,10 @@ impl Crew {
     pub fn new(n: usize, t: usize, own: usize) -> Result<Crew, CrewFault>
         ensures { CrewMade n t own result }
     {
-        if n < 1 || n > 16 {
+        if !(1..=16).contains(&n) {
             return Err(CrewFault::Units);
         }
-        if 3 * t as u128 + 1 > n as u128 {
+        if t > (n - 1) / 3 {
             return Err(CrewFault::Faulty);
         }
         if own >= n {

@@ -1,72 +1,77 @@
 // Making a frame, and its slots.
-ghost use Rattle.std.specs.Prelude.{◌≡◌};
+ghost use Rattle.std.specs.Prelude.{◌≡◌, []};
 ghost use Rattle.slot.specs.Slots.{laid};
-ghost use Rattle.slot.specs.Codings.{coding_of};
 ghost use Rattle.wire.specs.Frames.{carried, framed};
 ghost use Rattle.wire.specs.Slots.{slot_of, slot_bytes};
 
 use super::Frame;
 use slot::{Kind, lay};
 
-fn frame_of(bytes: &[u8]) -> Frame
-    ensures { carried result ≡ framed bytes.now }
-{
-    let mut kept = [0u8; 128];
-    let len = bytes.len();
-    if len > 128 {
-        return Frame {
-            bytes: kept,
-            len: 0,
-        };
-    }
-    lay(bytes, &mut kept);
-    Frame { bytes: kept, len }
-}
-
-fn slot_in<K: Kind>(frame: &Frame, slots: usize, s: usize) -> Option<K>
-    ensures { result ≡ slot_of (coding_of K.wide K.reads K.writes K.blank) slots s (carried frame.now) }
-{
-    if s >= slots {
-        return None;
-    }
-    if slots > 128 {
-        return None;
-    }
-    let width = K::slot_width();
-    if frame.len != width * slots {
-        return None;
-    }
-    let start = width * s;
-    K::read(&frame.bytes[start..start + width])
-}
-
 impl Frame {
     // The frame of these bytes; more than 128 count as a frame of no bytes.
+    #[tactic(auto, using(crate::proofs::Frames::framed_front, crate::proofs::Frames::framed_long))]
     pub fn new(bytes: &[u8]) -> Frame
         ensures { carried result ≡ framed bytes.now }
     {
-        frame_of(bytes)
+        if bytes.len() > 128 {
+            return Frame::empty();
+        }
+        let mut kept = [0; 128];
+        lay(bytes, &mut kept);
+        Frame {
+            bytes: kept,
+            len: bytes.len(),
+        }
+    }
+
+    // The frame of no bytes.
+    pub fn empty() -> Frame
+        ensures { carried result ≡ [] }
+    {
+        Frame {
+            bytes: [0; 128],
+            len: 0,
+        }
+    }
+
+    // The frame of one slot with this value.
+    #[tactic(auto, using(crate::proofs::Frames::written_front))]
+    pub fn single<K: Kind>(value: K) -> Frame
+        ensures { carried result ≡ K.coding.writes value }
+    {
+        let mut bytes = [0; 128];
+        value.write(&mut bytes);
+        Frame {
+            bytes,
+            len: K::slot_width(),
+        }
     }
 
     // Its bytes.
     pub fn bytes(&self) -> &[u8]
         ensures { result.now ≡ carried self.now }
     {
-        &self.bytes[0..self.len]
+        &self.bytes[..self.len]
     }
 
     // The value in slot `s` of a frame of so many slots; missing where there is no such slot, or the frame has
     // another length.
+    #[tactic(auto, using(crate::proofs::Frames::slot_read))]
     pub fn slot<K: Kind>(&self, slots: usize, s: usize) -> Option<K>
-        ensures { result ≡ slot_of (coding_of K.wide K.reads K.writes K.blank) slots s (carried self.now) }
+        ensures { result ≡ slot_of K.coding slots s (carried self.now) }
     {
-        slot_in::<K>(self, slots, s)
+        let width = K::slot_width();
+        if s >= slots || width.checked_mul(slots) != Some(self.len) {
+            return None;
+        }
+        let start = width * s;
+        K::read(&self.bytes[start..start + width])
     }
 }
 
 // Writes a slot at the start, where there is room for it, and keeps the bytes behind it.
 pub fn write_slot<K: Kind>(value: Option<K>, out: &mut [u8])
-    ensures { out.new ≡ laid (slot_bytes (coding_of K.wide K.reads K.writes K.blank) value) out.old }
+    ensures { out.new ≡ laid (slot_bytes K.coding value) out.old }
 {
     match value {
         Some(v) => v.write(out),

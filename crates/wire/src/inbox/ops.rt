@@ -1,6 +1,5 @@
 // Filling the table, and reading slots in it.
 ghost use Rattle.std.specs.Prelude.{◌≡◌, replicate, Some, None, slice_set};
-ghost use Rattle.slot.specs.Codings.{coding_of};
 ghost use Rattle.wire.specs.Boxes.{from};
 ghost use Rattle.wire.specs.Frames.{framed, box_of};
 ghost use Rattle.wire.specs.Slots.{slot_from};
@@ -8,26 +7,6 @@ ghost use Rattle.wire.specs.Slots.{slot_from};
 use super::Inbox;
 use crate::frame::Frame;
 use slot::Kind;
-
-fn put_at(inbox: &mut Inbox, sender: usize, bytes: &[u8])
-    ensures { box_of inbox.new ≡ slice_set (box_of inbox.old) sender (Some (framed bytes.now)) }
-{
-    if sender < 16 {
-        inbox.frames[sender] = Some(Frame::new(bytes));
-    }
-}
-
-fn slot_from<K: Kind>(inbox: &Inbox, sender: usize, slots: usize, s: usize) -> Option<K>
-    ensures { result ≡ slot_from (coding_of K.wide K.reads K.writes K.blank) slots s (from (box_of inbox.now) sender) }
-{
-    if sender >= 16 {
-        return None;
-    }
-    match &inbox.frames[sender] {
-        Some(frame) => frame.slot::<K>(slots, s),
-        None => None,
-    }
-}
 
 impl Inbox {
     // A table in which nothing came.
@@ -38,16 +17,19 @@ impl Inbox {
     }
 
     // Puts a frame of these bytes at a sender's place; there is no place past the sixteenth.
+    #[tactic(auto, using(crate::proofs::Frames::put_place, crate::proofs::Frames::put_past))]
     pub fn put(&mut self, sender: usize, bytes: &[u8])
         ensures { box_of self.new ≡ slice_set (box_of self.old) sender (Some (framed bytes.now)) }
     {
-        put_at(self, sender, bytes)
+        if sender < self.frames.len() {
+            self.frames[sender] = Some(Frame::new(bytes));
+        }
     }
 
     // The value in slot `s` of a sender's frame of so many slots; missing where nothing came.
     pub fn slot<K: Kind>(&self, sender: usize, slots: usize, s: usize) -> Option<K>
-        ensures { result ≡ slot_from (coding_of K.wide K.reads K.writes K.blank) slots s (from (box_of self.now) sender) }
+        ensures { result ≡ slot_from K.coding slots s (from (box_of self.now) sender) }
     {
-        slot_from::<K>(self, sender, slots, s)
+        self.frames.get(sender)?.as_ref()?.slot(slots, s)
     }
 }

@@ -1,5 +1,4 @@
 use Rattle.std.proofs.Common.{◌≡◌, ◌+◌, ◌*◌, ◌≤◌, length, ap, ◌∙◌, arith, rules}
-use Rattle.slot.proofs.Laws.{coding, kind_lawful}
 use Rattle.wire.specs.Frames.{box_of}
 use Rattle.wire.specs.Slots.{slot_bytes}
 use Rattle.wire.proofs.Slotted.{slot_long}
@@ -10,7 +9,7 @@ use Rattle.grading.proofs.grading.steps.fill_table.Goals as goal
 -- the slot ends within the table
 fits : (g : _) (c : goal.After-next_slot-value g) → c.slot_width-width.result * c.loop-s.s + c.slot_width-width.result ≤ 128
 fits g c =
-    let narrow : c.slot_width-width.result ≤ 8 = omega (arith, (let m = g.met.K.Kind in kind_lawful g.K.Kind m.missing m.empty m.written m.long m.some m.narrow).narrow) in
+    let narrow : c.slot_width-width.result ≤ 8 = omega (arith, g.met.K.Kind.lawful.narrow) in
     slots_fit c.slot_width-width.result c.loop-s.s c.units-n.result narrow c.loop-s-test.true (omega (arith, c.args.grading.now.crew.few, c.units-n.ensures))
 
 pub slice_bounds-write_slot-end : goal.slice_bounds-write_slot-end
@@ -18,8 +17,8 @@ slice_bounds-write_slot-end g c = omega (arith, fits g c)
 
 pub loop-s-preserved : goal.loop-s-preserved
 loop-s-preserved g c =
-    let k = coding g.K.Kind in
-    let l = (let m = g.met.K.Kind in kind_lawful g.K.Kind m.missing m.empty m.written m.long m.some m.narrow) in
+    let k = g.K.Kind.coding in
+    let l = g.met.K.Kind.lawful in
     let f = slot_after k c.args.grading.now (box_of c.args.inbox.now) c.args.grading.now.stage in
     let s = c.loop-s.s in
     let v = c.slot_width-width.result in
@@ -34,5 +33,5 @@ loop-s-preserved g c =
 
 pub returns : goal.returns
 returns g c =
-    let k = coding g.K.Kind in
+    let k = g.K.Kind.coding in
     slotted_all k (slot_after k c.args.grading.now (box_of c.args.inbox.now) c.args.grading.now.stage) c.loop-s.s c.args.grading.now.crew.n c.loop-s.table c.args.table.now (omega arith) c.loop-s.invariant.0 c.loop-s.invariant.1

@@ -1,8 +1,7 @@
 use Rattle.std.proofs.Common.{false}
-use Rattle.slot.proofs.Laws.{coding}
 use Rattle.grading.specs.Gradings.{doubtful}
 use Rattle.wire.proofs.Fills.{Filled}
 use Rattle.grading.proofs.grading.steps.next_distrusted.Given as goal
 
 abbrev pub invariant-loop-s : goal.invariant-loop-s
-invariant-loop-s g l = Filled (doubtful (coding g.K.Kind) l.grading) false l.marks l.s
+invariant-loop-s g l = Filled (doubtful g.K.Kind.coding l.grading) false l.marks l.s

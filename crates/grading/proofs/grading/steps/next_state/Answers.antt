@@ -1,10 +1,9 @@
-use Rattle.slot.proofs.Laws.{coding, kind_lawful}
 use Rattle.grading.proofs.Broadcasts.{graded_broadcast}
 use Rattle.grading.proofs.Rounds.{by_rounds}
 use Rattle.grading.proofs.grading.steps.next_state.Goals as goal
 
 pub returns : goal.returns
 returns g c =
-    let k = coding g.K.Kind in
-    let l = (let m = g.met.K.Kind in kind_lawful g.K.Kind m.missing m.empty m.written m.long m.some m.narrow) in
+    let k = g.K.Kind.coding in
+    let l = g.met.K.Kind.lawful in
     record { state = c.state_after.ensures; rounds = by_rounds k l; broadcast = graded_broadcast k l }

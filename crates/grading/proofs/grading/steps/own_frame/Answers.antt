@@ -1,13 +1,12 @@
 use Rattle.std.proofs.Common.{◌≡◌, ◌-◌, length, take, replicate, ap, ◌∙◌, arith}
-use Rattle.slot.proofs.Laws.{coding, kind_lawful}
 use Rattle.wire.specs.Frames.{framed}
 use Rattle.wire.proofs.Frames.{laid_front, framed_short}
 use Rattle.grading.proofs.grading.steps.own_frame.Goals as goal
 
 pub returns : goal.returns
 returns g c =
-    let k = coding g.K.Kind in
-    let l = (let m = g.met.K.Kind in kind_lawful g.K.Kind m.missing m.empty m.written m.long m.some m.narrow) in
+    let k = g.K.Kind.coding in
+    let l = g.met.K.Kind.lawful in
     let bytes = k.writes c.args.own in
     let size : c.slot_width.result - 0 ≡ length bytes = omega (arith, c.slot_width.ensures, l.long c.args.own) in
     c.new.ensures
