@@ -4,6 +4,7 @@
 #![tactic(auto)]
 
 mod arrange;
+mod link;
 mod turn;
 
 pub use arrange::chart;

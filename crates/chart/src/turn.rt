@@ -1,43 +1,57 @@
 // Turns the legs of a file's records, each to an earlier record, so that they lead to the root.
-ghost use Rattle.std.specs.Prelude.{◌≡◌, ℕ, ◌+◌, ◌<◌, ◌≤◌, length};
-ghost use Rattle.tree.specs.Records.{Earlier};
-ghost use Rattle.tree.specs.Turned.{Unset, Turned, Settled};
+ghost use Rattle.std.specs.Prelude.{◌≡◌, ◌≢◌, ◌+◌, ◌<◌, ◌≤◌, None, length, slice_index};
+ghost use Rattle.records.specs.Lists.{join_of};
+ghost use Rattle.tree.specs.Turned.{Turned, Settled};
+ghost use Rattle.chart.specs.Links.{ups_of, depths_of, up_of, depth_of};
 
-// The way from `root` to record 0 reversed: `up` and `depth` of the stations on it.
-pub(crate) fn reverse(joined: &[u16], root: u16, up: &mut [u16], depth: &mut [u16])
-    requires few { (length joined.now ≤ 1024) × (root < length joined.now) }
-    requires earlier { Earlier joined.now }
-    requires long { (length joined.now ≤ length up.old) × (length joined.now ≤ length depth.old) }
-    requires unset { Unset depth.old }
-    ensures turned { Turned joined.now root up.new depth.new 0 }
+use crate::link::Link;
+use records::Records;
+
+// The links of the stations on the way from `root` to the first record, which is turned.
+fn reverse(records: &Records, root: u16) -> [Option<Link>; 1024]
+    requires { root < length records.now.labels }
+    ensures { Turned records.now.joins root (ups_of result) (depths_of result) 0 }
 {
-    up[root as usize] = root;
-    depth[root as usize] = 1;
-    let mut cur = root;
-    let mut level: u16 = 1;
-    while cur != 0 {
-        let next = joined[cur as usize];
-        up[next as usize] = cur;
-        level += 1;
-        depth[next as usize] = level;
-        cur = next;
+    let rows = records.as_slice();
+    let mut links = [None; 1024];
+    let mut here = root;
+    let mut link = Link { up: root, depth: 1 };
+    links[here as usize] = Some(link);
+    while let Some(below) = rows[here as usize].joined {
+        link = Link {
+            up: here,
+            depth: link.depth + 1,
+        };
+        links[below as usize] = Some(link);
+        here = below;
     }
+    links
 }
 
-// The other stations: each is joined to an earlier one, which has its parent by then.
-pub(crate) fn settle(joined: &[u16], root: u16, up: &mut [u16], depth: &mut [u16])
-    requires few { (length joined.now ≤ 1024) × (root < length joined.now) }
-    requires earlier { Earlier joined.now }
-    requires long { (length joined.now ≤ length up.old) × (length joined.now ≤ length depth.old) }
-    requires turned { Turned joined.now root up.old depth.old 0 }
-    ensures { Settled joined.now root up.new depth.new }
+// The link to the station that a record is joined to, which has its own.
+fn link_to(joined: Option<u16>, links: &[Option<Link>; 1024]) -> Option<Link>
+    requires some { joined ≢ None }
+    requires linked { 0 < slice_index (depths_of links.now) (join_of joined) }
+    requires low { slice_index (depths_of links.now) (join_of joined) ≤ 2048 }
+    ensures up { up_of result ≡ join_of joined }
+    ensures depth { depth_of result ≡ slice_index (depths_of links.now) (join_of joined) + 1 }
 {
-    for k in 1..joined.len() {
-        if depth[k] == 0 {
-            let next = joined[k];
-            up[k] = next;
-            let level = depth[next as usize];
-            depth[k] = level + 1;
+    let up = joined?;
+    let depth = links[up as usize]?.depth + 1;
+    Some(Link { up, depth })
+}
+
+// The links of all stations: each that is not on the way to the first record is joined to an earlier one, which has its
+// link by then.
+pub(crate) fn turn(records: &Records, root: u16) -> [Option<Link>; 1024]
+    requires { root < length records.now.labels }
+    ensures { Settled records.now.joins root (ups_of result) (depths_of result) }
+{
+    let mut links = reverse(records, root);
+    for (k, row) in records.as_slice().iter().enumerate() {
+        if links[k].is_none() {
+            links[k] = link_to(row.joined, &links);
         }
     }
+    links
 }

@@ -1,5 +1,5 @@
 -- What the reading of a file says of the plan that it is read into.
-use Rattle.std.proofs.Common.{◌≡◌, ℕ, List, Ok, Err, Result, refl, subst, arith}
+use Rattle.std.proofs.Common.{◌≡◌, ℕ, List, Ok, Err, Result, sym, refl, ◌∙◌, subst}
 use Rattle.records.specs.declared.fault.PlanFault.{PlanFault}
 use Rattle.records.specs.Accepts.{Accepted, spots}
 use Rattle.records.specs.Files.{read_file}
@@ -8,9 +8,7 @@ use Rattle.records.proofs.Facts.{file_holds, holds_file, file_joins, joins_file}
 use Rattle.tree.specs.declared.Station.{Station}
 use Rattle.tree.specs.Records.{Records}
 use Rattle.tree.specs.Charts.{Charted}
-use Rattle.plan.specs.declared.plan.Plan.{Plan}
-use Rattle.plan.specs.Views.{stations_of}
-use Rattle.plan.specs.Loads.{FileCave, Loaded, Reads}
+use Rattle.plan.specs.Loads.{FileCave, Reads}
 
 -- the stations and legs of the records are those of the file
 file_cave : (file : List ℕ) (rs : Records) (ps : List Station) (g : Accepted file rs) → Charted rs ps → FileCave file (spots 0 g.counts) ps
@@ -21,28 +19,21 @@ file_cave file rs ps g c =
     }
 
 -- one file says one thing
-pub loaded_reads : (file : List ℕ) (before after : Plan) (r : Result Unit PlanFault) → Loaded (read_file file) before after r → Reads file (stations_of after) r
-loaded_reads file before after r = go (read_file file) refl
-  where
-    same : (rs qs : Records) → read_file file ≡ Ok rs → read_file file ≡ Ok qs → rs ≡ qs
-    same rs qs p q = cc
+same : (file : List ℕ) (rs qs : Records) → Ok rs ≡ read_file file → read_file file ≡ Ok qs → rs ≡ qs
+same file rs qs e f = let z : ◌≡◌ {A = Result Records PlanFault} (Ok rs) (Ok qs) = e ∙ f in cc
 
-    never : (f : PlanFault) (qs : Records) → read_file file ≡ Err f → read_file file ≡ Ok qs → ⊥
-    never f qs p q = let z : ◌≡◌ {A = ℕ} 0 1 = cc in omega arith
+pub reads_records : (file : List ℕ) (rs : Records) (ps : List Station) → Ok rs ≡ read_file file → Charted rs ps → Reads file ps (Ok tt)
+reads_records file rs ps e c =
+    record {
+      good = λ h. (rs, read_good file rs (sym e));
+      taken = λ qs g. refl;
+      cave = λ qs g. file_cave file qs ps g (subst (λ (x : Records). Charted x ps) (same file rs qs e (good_read file qs g)) c);
+    }
 
-    clash : (f : PlanFault) → r ≡ Err f → r ≡ Ok tt → ⊥
-    clash f p q = let z : ◌≡◌ {A = ℕ} 0 1 = cc in omega arith
-
-    go : (x : Result Records PlanFault) → read_file file ≡ x → Loaded x before after r → Reads file (stations_of after) r
-    go (Ok rs) e l =
-        record {
-          good = λ _. (rs, read_good file rs e);
-          taken = λ _ _. l.0;
-          cave = λ qs g. file_cave file qs (stations_of after) g (subst (λ (x : Records). Charted x (stations_of after)) (same rs qs e (good_read file qs g)) l.1);
-        }
-    go (Err f) e l =
-        record {
-          good = λ p. absurd (clash f l.0 p);
-          taken = λ qs g. absurd (never f qs e (good_read file qs g));
-          cave = λ qs g. absurd (never f qs e (good_read file qs g));
-        }
+pub reads_nothing : (file : List ℕ) (f : PlanFault) (ps : List Station) → Err f ≡ read_file file → Reads file ps (Err f)
+reads_nothing file f ps e =
+    record {
+      good = λ h. cc;
+      taken = λ qs g. let z : ◌≡◌ {A = Result Records PlanFault} (Err f) (Ok qs) = e ∙ good_read file qs g in cc;
+      cave = λ qs g. let z : ◌≡◌ {A = Result Records PlanFault} (Err f) (Ok qs) = e ∙ good_read file qs g in cc;
+    }

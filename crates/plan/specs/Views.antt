@@ -9,4 +9,4 @@ stations_of p = vec_items p.stations
 
 -- what every plan satisfies
 pub canonical : (p : Plan) → Canonical (stations_of p)
-canonical p = record { few = p.few; some = p.some; top = p.top; own = p.own; inside = p.inside; deeper = p.deeper; ascending = p.ascending }
+canonical p = p.lawful

@@ -8,12 +8,12 @@ use Rattle.label.proofs.Reading.{read_written, label_bytes}
 use Rattle.tree.specs.Records.{Records, label_at, Different}
 use Rattle.records.specs.Accepts.{GoodBlock, spots, Stands, Written, Accepted, ReadWhenGood}
 use Rattle.records.specs.Files.{parent_for, record_at, records_from, joined_on, blocks_from, counted, in_blocks, sized, read_file}
-use Rattle.records.specs.Halves.{eight_at, eight_blanks, second_of, unlawful}
+use Rattle.std.specs.Prelude.{option_map}
+use Rattle.records.specs.Lists.{join_of}
+use Rattle.records.specs.Halves.{eight_at, eight_blanks, second_of}
 use Rattle.records.specs.declared.fault.PlanFault.{PlanFault}
 use Rattle.records.specs.declared.fault.PlanFault.TheVariants.{Count}
 use Rattle.records.specs.declared.record.Record.{Record}
-use Rattle.records.specs.declared.record.Second.{Second}
-use Rattle.records.specs.declared.record.Second.TheVariants.{Blank}
 use Rattle.records.proofs.Blocks.{Told, blocks_told, told_blocks, sized_some, some_sized}
 use Rattle.records.proofs.Halves.{second_blank, second_named, blank_second, named_second, parent_first, parent_later, Taken, taken, takes}
 use Rattle.records.proofs.Seeks.{seek_none, seek_absent, seek_found}
@@ -22,7 +22,7 @@ use Rattle.records.proofs.Seeks.{seek_none, seek_absent, seek_found}
 
 -- what a record at byte p of the file says that is taken
 abbrev TakenAt : List ℕ → ℕ → List Label → Record → Type 0
-TakenAt file p ls r = Taken (label_of (eight_at file p)) (second_of (eight_at file (p + 8))) ls r
+TakenAt file p ls r = Taken (label_of (eight_at file p)) (second_of p (eight_at file (p + 8))) ls r
 
 module _ (file qs : List ℕ) (ls : List Label) (js : List ℕ) (p : ℕ) (r : Record) (w : Written file qs (record { labels = ls; joins = js })) (t : TakenAt file p ls r) where
   abbrev byte : ℕ → ℕ
@@ -32,7 +32,7 @@ module _ (file qs : List ℕ) (ls : List Label) (js : List ℕ) (p : ℕ) (r : R
   name k = label_at (ls ++ r.label ∷ []) k
 
   abbrev join : ℕ → ℕ
-  join k = get_or (js ++ r.joined ∷ []) k 0
+  join k = get_or (js ++ join_of r.joined ∷ []) k 0
 
   old_byte : (k : ℕ) → k < length qs → byte k ≡ get_or qs k 0
   old_byte k h = get_or_append_left qs (p ∷ []) 0 k h
@@ -47,10 +47,10 @@ module _ (file qs : List ℕ) (ls : List Label) (js : List ℕ) (p : ℕ) (r : R
   new_name k h = let e = w.labels_long in get_or_push ls r.label zero_label k (omega arith)
 
   old_join : (k : ℕ) → k < length qs → join k ≡ get_or js k 0
-  old_join k h = let e = w.joins_long in get_or_append_left js (r.joined ∷ []) 0 k (omega arith)
+  old_join k h = let e = w.joins_long in get_or_append_left js (join_of r.joined ∷ []) 0 k (omega arith)
 
-  new_join : (k : ℕ) → k ≡ length qs → join k ≡ r.joined
-  new_join k h = let e = w.joins_long in get_or_push js r.joined 0 k (omega arith)
+  new_join : (k : ℕ) → k ≡ length qs → join k ≡ join_of r.joined
+  new_join k h = let e = w.joins_long in get_or_push js (join_of r.joined) 0 k (omega arith)
 
   push_label : (k : ℕ) → k < length (qs ++ p ∷ []) → Stands file (byte k) (name k)
   push_label k h =
@@ -68,7 +68,7 @@ module _ (file qs : List ℕ) (ls : List Label) (js : List ℕ) (p : ℕ) (r : R
       let el = w.labels_long in
       ⊎_elim
       (λ (o : b < length qs). w.different a b h (omega arith) (sym (old_name a (omega arith)) ∙ e ∙ old_name b o))
-      (λ (o : length qs ≤ b). seek_none r.label 0 ls t.fresh a (omega arith) (sym (old_name a (omega arith)) ∙ e ∙ new_name b (omega arith)))
+      (λ (o : length qs ≤ b). seek_none r.label ls t.fresh a (omega arith) (sym (old_name a (omega arith)) ∙ e ∙ new_name b (omega arith)))
       (cases_lt b (length qs))
 
   push_first : (eight_at file (byte 0 + 8) ≡ eight_blanks) × (join 0 ≡ 0)
@@ -78,8 +78,8 @@ module _ (file qs : List ℕ) (ls : List Label) (js : List ℕ) (p : ℕ) (r : R
       (λ (o : 0 < length qs). (ap (λ (x : ℕ). eight_at file (x + 8)) (old_byte 0 o) ∙ (w.first o).0, old_join 0 o ∙ (w.first o).1))
       (λ (o : length qs ≤ 0).
       let e : 0 ≡ length qs = omega arith in
-      let f = parent_first (second_of (eight_at file (p + 8))) ls r.joined t.joins (omega arith) in
-      (ap (λ (x : ℕ). eight_at file (x + 8)) (new_byte 0 e) ∙ second_blank (eight_at file (p + 8)) f.0, new_join 0 e ∙ f.1))
+      let f = parent_first t.half ls r.joined t.joins (omega arith) in
+      (ap (λ (x : ℕ). eight_at file (x + 8)) (new_byte 0 e) ∙ second_blank p (eight_at file (p + 8)) (t.lawful ∙ ap (λ (o : Option Label). Ok o) f.0), new_join 0 e ∙ ap join_of f.1))
       (cases_lt 0 (length qs))
 
   push-later : (k : ℕ) → 0 < k → k < length (qs ++ p ∷ []) → (join k < k) × Stands file (byte k + 8) (name (join k))
@@ -93,16 +93,16 @@ module _ (file qs : List ℕ) (ls : List Label) (js : List ℕ) (p : ℕ) (r : R
       (omega (arith, old.0), ap (λ (x : ℕ). eight_at file (x + 8)) (old_byte k o) ∙ old.1 ∙ sym (ap bytes_of (ap name same ∙ old_name (get_or js k 0) (omega (arith, old.0))))))
       (λ (o : length qs ≤ k).
       let e : k ≡ length qs = omega arith in
-      let i = parent_later (second_of (eight_at file (p + 8))) ls r.joined t.joins (omega arith) in
-      let same = new_join k e in
-      (omega (arith, i.0), ap (λ (x : ℕ). eight_at file (x + 8)) (new_byte k e) ∙ second_named (eight_at file (p + 8)) (label_at ls r.joined) i.1 ∙ sym (ap bytes_of (ap name same ∙ old_name r.joined (omega (arith, i.0))))))
+      let i = parent_later t.half ls r.joined t.joins (omega arith) in
+      let same : join k ≡ i.0 = new_join k e ∙ ap join_of i.1.0 in
+      (omega (arith, i.1.1), ap (λ (x : ℕ). eight_at file (x + 8)) (new_byte k e) ∙ second_named p (eight_at file (p + 8)) (label_at ls i.0) (t.lawful ∙ ap (λ (o : Option Label). Ok o) i.1.2) ∙ sym (ap bytes_of (ap name same ∙ old_name i.0 (omega (arith, i.1.1))))))
       (cases_lt k (length qs))
 
-  written_push : Written file (qs ++ p ∷ []) (record { labels = ls ++ r.label ∷ []; joins = js ++ r.joined ∷ [] })
+  written_push : Written file (qs ++ p ∷ []) (record { labels = ls ++ r.label ∷ []; joins = js ++ join_of r.joined ∷ [] })
   written_push =
       let nq = length_push qs p in
       let nl = length_push ls r.label in
-      let nj = length_push js r.joined in
+      let nj = length_push js (join_of r.joined) in
       let el = w.labels_long in
       let ej = w.joins_long in
       record {
@@ -135,51 +135,61 @@ records_written file (p ∷ ps) qs ls js rs w e = go (record_at file p ls) refl 
         → ((vs : List ℕ) (us : List Label) (ks : List ℕ) → Written file vs (record { labels = us; joins = ks }) → records_from file ps us ks ≡ Ok rs → Written file (vs ++ ps) rs) → Written file (qs ++ p ∷ ps) rs
     go (Ok r) q f rec =
         subst (λ (xs : List ℕ). Written file xs rs) (append_assoc qs (p ∷ []) ps)
-        (rec (qs ++ p ∷ []) (ls ++ r.label ∷ []) (js ++ r.joined ∷ []) (written_push file qs ls js p r w (taken (label_of (eight_at file p)) (second_of (eight_at file (p + 8))) p ls r q)) f)
+        (rec (qs ++ p ∷ []) (ls ++ r.label ∷ []) (js ++ join_of r.joined ∷ []) (written_push file qs ls js p r w (taken (label_of (eight_at file p)) (second_of p (eight_at file (p + 8))) p ls r q)) f)
     go (Err x) q f rec = let z : ◌≡◌ {A = ℕ} 0 1 = cc in absurd (omega arith)
 
 -- records that are written so are read ---------------------------------------------------------
 
 module _ (file ps : List ℕ) (rs : Records) (w : Written file ps rs) where
-  -- the second half of record k, and the place that it names among the labels before
-  second_at : (k : ℕ) → k < length ps → (unlawful (second_of (eight_at file (get_or ps k 0 + 8))) ≡ false) × (parent_for (second_of (eight_at file (get_or ps k 0 + 8))) (take k rs.labels) ≡ Some (get_or rs.joins k 0))
+  -- what the second half of record k says, and the place that it names among the labels before
+  record SecondAt (k : ℕ) : Type 0 where
+    half : Option Label
+    joined : Option ℕ
+    lawful : second_of (get_or ps k 0) (eight_at file (get_or ps k 0 + 8)) ≡ Ok half
+    names : parent_for half (take k rs.labels) ≡ Some joined
+    same : join_of joined ≡ get_or rs.joins k 0
+
+  earlier_label : (k i : ℕ) → i < k → label_at (take k rs.labels) i ≡ label_at rs.labels i
+  earlier_label k i l = get_or-take k rs.labels i zero_label l
+
+  second_at : (k : ℕ) → k < length ps → SecondAt k
   second_at k h =
       let el = w.labels_long in
+      let long : length (take k rs.labels) ≡ k = length-take-le k rs.labels (omega arith) in
       ⊎_elim
       (λ (o : 0 < k).
       let s = w.later k o h in
-      let long : length (take k rs.labels) ≡ k = length-take-le k rs.labels (omega arith) in
-      let read : (i : ℕ) → i < k → label_at (take k rs.labels) i ≡ label_at rs.labels i = λ i l. get_or-take k rs.labels i zero_label l in
-      let is = named_second (eight_at file (get_or ps k 0 + 8)) (label_at rs.labels (get_or rs.joins k 0)) s.1 in
-      let z : 0 + get_or rs.joins k 0 ≡ get_or rs.joins k 0 = omega arith in (
-        ap unlawful is,
-        ap (λ (x : Second). parent_for x (take k rs.labels)) is
-            ∙ seek_found (label_at rs.labels (get_or rs.joins k 0)) 0 (take k rs.labels) (get_or rs.joins k 0) (omega (arith, s.0)) (read (get_or rs.joins k 0) s.0)
-            (λ i l e. w.different i (get_or rs.joins k 0) l (omega (arith, s.0)) (sym (read i (omega (arith, s.0))) ∙ e))
-            ∙ ap (λ (i : ℕ). Some i) z,
-      ))
+      record {
+        half = Some (label_at rs.labels (get_or rs.joins k 0));
+        joined = Some (get_or rs.joins k 0);
+        lawful = named_second (get_or ps k 0) (eight_at file (get_or ps k 0 + 8)) (label_at rs.labels (get_or rs.joins k 0)) s.1;
+        names = ap (option_map (λ i. Some i))
+            (seek_found (label_at rs.labels (get_or rs.joins k 0)) (take k rs.labels) (get_or rs.joins k 0) (omega (arith, s.0)) (earlier_label k (get_or rs.joins k 0) s.0)
+            (λ i l e. w.different i (get_or rs.joins k 0) l (omega (arith, s.0)) (sym (earlier_label k i (omega (arith, s.0))) ∙ e)));
+        same = refl;
+      })
       (λ (o : k ≤ 0).
       let z : k ≡ 0 = omega arith in
       let f = w.first (omega arith) in
-      let is = blank_second (eight_at file (get_or ps k 0 + 8)) (ap (λ (i : ℕ). eight_at file (get_or ps i 0 + 8)) z ∙ f.0) in (
-        ap unlawful is,
-        ap (λ (x : Second). parent_for x (take k rs.labels)) is
-            ∙ ap (λ (i : ℕ). parent_for Blank (take i rs.labels)) z
-            ∙ ap (λ (i : ℕ). Some i) (sym (ap (λ (i : ℕ). get_or rs.joins i 0) z ∙ f.1)),
-      ))
+      record {
+        half = None;
+        joined = None;
+        lawful = blank_second (get_or ps k 0) (eight_at file (get_or ps k 0 + 8)) (ap (λ (i : ℕ). eight_at file (get_or ps i 0 + 8)) z ∙ f.0);
+        names = ap (λ (i : ℕ). parent_for None (take i rs.labels)) z;
+        same = sym (ap (λ (i : ℕ). get_or rs.joins i 0) z ∙ f.1);
+      })
       (cases_lt 0 k)
 
-  judged_at : (k : ℕ) → k < length ps → record_at file (get_or ps k 0) (take k rs.labels) ≡ Ok (record { label = label_at rs.labels k; joined = get_or rs.joins k 0 })
+  judged_at : (k : ℕ) (h : k < length ps) → record_at file (get_or ps k 0) (take k rs.labels) ≡ Ok (record { label = label_at rs.labels k; joined = (second_at k h).joined })
   judged_at k h =
       let el = w.labels_long in
       let long : length (take k rs.labels) ≡ k = length-take-le k rs.labels (omega arith) in
-      let read : (i : ℕ) → i < k → label_at (take k rs.labels) i ≡ label_at rs.labels i = λ i l. get_or-take k rs.labels i zero_label l in
       let s = second_at k h in
-      takes (label_of (eight_at file (get_or ps k 0))) (second_of (eight_at file (get_or ps k 0 + 8))) (get_or ps k 0) (take k rs.labels) (label_at rs.labels k) (get_or rs.joins k 0)
+      takes (label_of (eight_at file (get_or ps k 0))) (second_of (get_or ps k 0) (eight_at file (get_or ps k 0 + 8))) (get_or ps k 0) (take k rs.labels) (label_at rs.labels k) s.half s.joined
       (ap label_of (w.label k h) ∙ read_written (label_at rs.labels k))
-      s.0
-      (seek_absent (label_at rs.labels k) 0 (take k rs.labels) (λ i o e. w.different i k (omega arith) (omega arith) (sym (read i (omega arith)) ∙ e)))
-      s.1
+      s.lawful
+      (seek_absent (label_at rs.labels k) (take k rs.labels) (λ i o e. w.different i k (omega arith) (omega arith) (sym (earlier_label k i (omega arith)) ∙ e)))
+      s.names
 
   written_records : (m k : ℕ) → k + m ≡ length ps → records_from file (drop k ps) (take k rs.labels) (take k rs.joins) ≡ Ok rs
   written_records zero k e =
@@ -194,6 +204,7 @@ module _ (file ps : List ℕ) (rs : Records) (w : Written file ps rs) where
       let h : k < length ps = omega arith in
       ap (λ (xs : List ℕ). records_from file xs (take k rs.labels) (take k rs.joins)) (drop_more ps k 0 h)
       ∙ ap (λ v. joined_on (take k rs.labels) (take k rs.joins) v (records_from file (drop (k + 1) ps))) (judged_at k h)
+      ∙ ap (λ (j : ℕ). records_from file (drop (k + 1) ps) (take k rs.labels ++ label_at rs.labels k ∷ []) (take k rs.joins ++ j ∷ [])) (second_at k h).same
       ∙ ap (λ (xs : List Label). records_from file (drop (k + 1) ps) xs (take k rs.joins ++ get_or rs.joins k 0 ∷ [])) (sym (take_more rs.labels k zero_label (omega arith)))
       ∙ ap (λ (xs : List ℕ). records_from file (drop (k + 1) ps) (take (k + 1) rs.labels) xs) (sym (take_more rs.joins k 0 (omega arith)))
       ∙ written_records m (k + 1) (omega arith)

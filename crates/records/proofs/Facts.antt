@@ -1,11 +1,13 @@
 -- What holds of the records of a good file.
-use Rattle.std.proofs.Common.{◌≡◌, ℕ, ◌+◌, ◌<◌, ◌⊎◌, List, length, get_or, Some, Ok, sym, ap, ◌∙◌, inl, inr, ⊎_elim, arith}
+use Rattle.std.proofs.Common.{◌≡◌, ℕ, ◌+◌, ◌<◌, ◌⊎◌, List, length, get_or, Some, Ok, Err, Result, sym, ap, ◌∙◌, inl, inr, ⊎_elim, arith}
+use Rattle.std.specs.Prelude.{IfOk}
 use Rattle.label.specs.Labels.{bytes_of, label_of}
 use Rattle.label.specs.declared.label.Label.{Label}
 use Rattle.label.proofs.Reading.{read_written, same_label_lem}
 use Rattle.tree.specs.Records.{Records, label_at}
 use Rattle.records.specs.Accepts.{Stands, Written, Accepted, Sound, FileHolds, FileJoins}
 use Rattle.records.specs.Files.{read_file}
+use Rattle.records.specs.declared.fault.PlanFault.{PlanFault}
 use Rattle.records.specs.Halves.{eight_at}
 use Rattle.records.proofs.Accepting.{read_good}
 
@@ -27,6 +29,10 @@ accepted_sound file rs a =
 
 pub read_sound : (file : List ℕ) (rs : Records) → Ok rs ≡ read_file file → Sound rs
 read_sound file rs e = accepted_sound file rs (read_good file rs (sym e))
+
+pub if_sound : (file : List ℕ) (r : Result Records PlanFault) → r ≡ read_file file → IfOk r Sound
+if_sound file (Ok rs) e = read_sound file rs e
+if_sound file (Err f) e = tt
 
 -- one label stands at a byte
 pub stands_one : (file : List ℕ) (p : ℕ) (a b : Label) → Stands file p a → Stands file p b → a ≡ b

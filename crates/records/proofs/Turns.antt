@@ -1,108 +1,196 @@
--- One turn of the loops over records and blocks.
-use Rattle.std.proofs.Common.{◌≡◌, ℕ, zero, suc, ◌+◌, ◌-◌, ◌*◌, ◌<◌, ◌≤◌, Bool, true, false, cond, not, ◌||◌, eqb, ltb, List, [], ◌∷◌, ◌++◌, length, get_or, take, drop, set, Ok, Err, Option, Result, sym, refl, ap, ◌∙◌, subst, append_assoc, add-one, arith}
-use Rattle.std.proofs.lemmas.List.{drop_more, drop_all, take_more_set}
-use Rattle.std.proofs.lemmas.Bool.{ltb-false}
-use Rattle.std.specs.List.{AllByRecursion}
-use Rattle.label.proofs.Elements.{AllByRecursion-append}
+-- One turn of the loops over blocks and records.
+use Rattle.std.proofs.Common.{◌≡◌, ℕ, zero, suc, ◌+◌, ◌-◌, ◌*◌, ◌<◌, ◌≤◌, eqb, List, [], ◌∷◌, ◌++◌, length, take, drop, Ok, Err, Result, sym, refl, ap, ◌∙◌, append_assoc, append-nil, add-one, arith, length-append, length-drop}
+use Rattle.std.proofs.lemmas.List.{take-take, drop-drop, drop-take, length-take-le}
+use Rattle.std.proofs.Math.Seq.{take-append_seam, drop-append_seam}
 use Rattle.label.specs.Labels.{label_of}
 use Rattle.label.specs.declared.label.Label.{Label}
-use Rattle.block.specs.Blocks.{block_verdict, check_sum, word, blank_from}
+use Rattle.block.specs.Blocks.{block_verdict}
 use Rattle.block.specs.declared.fault.BlockFault.{BlockFault}
-use Rattle.block.specs.declared.fault.BlockCause.TheVariants.{Check, Header, Padding}
+use Rattle.tree.specs.Records.{Records}
+use Rattle.records.specs.Accepts.{GoodBlock}
+use Rattle.records.specs.Files.{judged, record_at, records_from, joined_on, places_of, block_at, placed, blocks_from, count_at, starts}
 use Rattle.records.specs.Halves.{eight_at, second_of}
-use Rattle.records.specs.Files.{judged, record_at, records_from, joined_on, places_of, block_at, placed, blocks_from}
+use Rattle.records.specs.Lists.{join_of}
 use Rattle.records.specs.declared.fault.PlanFault.{PlanFault}
 use Rattle.records.specs.declared.fault.PlanFault.TheVariants.{Block}
 use Rattle.records.specs.declared.record.Record.{Record}
-use Rattle.records.specs.declared.record.Second.{Second}
+use Rattle.records.proofs.Blocks.{verdict_good}
+
+-- chunks ----------------------------------------------------------------------------------------
+
+-- the first chunk and what is left
+pub first_chunk : (xs x t : List ℕ) (n : ℕ) → xs ≡ x ++ t → length x ≡ n → x ≡ take n xs
+first_chunk xs x t n e l = sym (ap (take n) e ∙ ap (λ (k : ℕ). take k (x ++ t)) (sym l) ∙ take-append_seam x t)
+
+pub after_chunk : (xs x t : List ℕ) (n : ℕ) → xs ≡ x ++ t → length x ≡ n → t ≡ drop n xs
+after_chunk xs x t n e l = sym (ap (drop n) e ∙ ap (λ (k : ℕ). drop k (x ++ t)) (sym l) ∙ drop-append_seam x t)
 
 -- records ---------------------------------------------------------------------------------------
 
-module _ (file places : List ℕ) (labels : List Label) (joined : List ℕ) (k : ℕ) (l : k < length places) where
-  at_record : (v : Result Record PlanFault) → v ≡ record_at file (get_or places k 0) (take k labels) → joined_on (take k labels) (take k joined) v (records_from file (drop (k + 1) places)) ≡ records_from file (drop k places) (take k labels) (take k joined)
-  at_record v e = ap (λ r. joined_on (take k labels) (take k joined) r (records_from file (drop (k + 1) places))) e ∙ sym (ap (λ ps. records_from file ps (take k labels) (take k joined)) (drop_more places k 0 l))
+-- the bytes of the records from r on, of count records from byte start on
+abbrev pub run_left : List ℕ → ℕ → ℕ → ℕ → List ℕ
+run_left file start count r = take (16 * (count - r)) (drop (start + 16 * r) file)
 
-  pub records_turn : (r : Record) → k < length labels → k < length joined → Ok r ≡ record_at file (get_or places k 0) (take k labels)
-      → records_from file (drop (k + 1) places) (take (k + 1) (set labels k r.label)) (take (k + 1) (set joined k r.joined)) ≡ records_from file (drop k places) (take k labels) (take k joined)
-  records_turn r ll lj e =
-      ap (λ ls. records_from file (drop (k + 1) places) ls (take (k + 1) (set joined k r.joined))) (take_more_set labels k r.label ll)
-      ∙ ap (records_from file (drop (k + 1) places) (take k labels ++ r.label ∷ [])) (take_more_set joined k r.joined lj)
-      ∙ at_record (Ok r) e
+-- record r as the code reads it in its 16 bytes
+abbrev pub verdict : List ℕ → ℕ → ℕ → List Label → Result Record PlanFault
+verdict x start r ls = judged (label_of (eight_at x 0)) (second_of (start + 16 * r) (eight_at x 8)) (start + 16 * r) ls
 
-  pub records_stop : (f : PlanFault) → Err f ≡ record_at file (get_or places k 0) (take k labels) → Err f ≡ records_from file (drop k places) (take k labels) (take k joined)
-  records_stop f e = at_record (Err f) e
+pub verdict_same : (x : List ℕ) (start r k : ℕ) (ls ms : List Label) → r ≡ k → ls ≡ ms → verdict x start r ls ≡ verdict x start k ms
+verdict_same x start r k ls ms e f = ap (λ (i : ℕ). verdict x start i ls) e ∙ ap (verdict x start k) f
 
-pub records_end : (file places : List ℕ) (labels : List Label) (joined : List ℕ) (k : ℕ) → length places ≤ k → k ≤ length places → Ok (record { labels = take (length places) labels; joins = take (length places) joined }) ≡ records_from file (drop k places) (take k labels) (take k joined)
-records_end file places labels joined k h l =
-    let e : length places ≡ k = omega arith in
-    ap (λ (n : ℕ). Ok (record { labels = take n labels; joins = take n joined })) e ∙ sym (ap (λ (ps : List ℕ). records_from file ps (take k labels) (take k joined)) (drop_all k places h))
+module _ (file : List ℕ) (start count r : ℕ) (within : start + 16 * count ≤ length file) where
+  run_long : r ≤ count → length (run_left file start count r) ≡ 16 * (count - r)
+  run_long l = length-take-le (16 * (count - r)) (drop (start + 16 * r) file) (omega (arith, length-drop (start + 16 * r) file))
 
--- the places of records -------------------------------------------------------------------------
+  pub run_ends : r ≤ count → length (run_left file start count r) < 16 → r ≡ count
+  run_ends l h = omega (arith, run_long l)
 
-places_more : (p k : ℕ) → places_of p (k + 1) ≡ places_of p k ++ (p + 16 * k) ∷ []
-places_more p k = ap (places_of p) (add-one k) ∙ go p k
+  module _ (x t : List ℕ) (few : r ≤ count) (e : run_left file start count r ≡ x ++ t) (size : length x ≡ 16) where
+    pub run_more : r < count
+    run_more = omega (arith, run_long few, ap length e, length-append x t)
+
+    pub run_next : t ≡ run_left file start count (r + 1)
+    run_next =
+        let a : 16 * (count - r) ≡ 16 + 16 * (count - (r + 1)) = omega (arith, run_more) in
+        let b : start + 16 * r + 16 ≡ start + 16 * (r + 1) = omega arith in
+        after_chunk (run_left file start count r) x t 16 e size
+        ∙ ap (λ (n : ℕ). drop 16 (take n (drop (start + 16 * r) file))) a
+        ∙ drop-take 16 (16 * (count - (r + 1))) (drop (start + 16 * r) file)
+        ∙ ap (take (16 * (count - (r + 1)))) (drop-drop 16 (start + 16 * r) file ∙ ap (λ (n : ℕ). drop n file) b)
+
+    chunk : x ≡ take 16 (drop (start + 16 * r) file)
+    chunk = first_chunk (run_left file start count r) x t 16 e size ∙ take-take 16 (16 * (count - r)) (drop (start + 16 * r) file) (omega (arith, run_more))
+
+    first_half : eight_at x 0 ≡ eight_at file (start + 16 * r)
+    first_half = ap (take 8) chunk ∙ take-take 8 16 (drop (start + 16 * r) file) (omega arith)
+
+    second_half : eight_at x 8 ≡ eight_at file (start + 16 * r + 8)
+    second_half = ap (λ (xs : List ℕ). take 8 (drop 8 xs)) chunk ∙ ap (take 8) (drop-take 8 8 (drop (start + 16 * r) file) ∙ ap (take 8) (drop-drop 8 (start + 16 * r) file)) ∙ take-take 8 8 (drop (start + 16 * r + 8) file) (omega arith)
+
+    is_record : (ls : List Label) → verdict x start r ls ≡ record_at file (start + 16 * r) ls
+    is_record ls = ap (λ (bs : List ℕ). judged (label_of bs) (second_of (start + 16 * r) (eight_at x 8)) (start + 16 * r) ls) first_half ∙ ap (λ (bs : List ℕ). judged (label_of (eight_at file (start + 16 * r))) (second_of (start + 16 * r) bs) (start + 16 * r) ls) second_half
+
+    at_record : (ls : List Label) (js : List ℕ) (v : Result Record PlanFault) → v ≡ verdict x start r ls → joined_on ls js v (records_from file (places_of (start + 16 * (r + 1)) (count - (r + 1)))) ≡ records_from file (places_of (start + 16 * r) (count - r)) ls js
+    at_record ls js v q =
+        let s : count - r ≡ suc (count - (r + 1)) = omega (arith, run_more) in
+        let b : start + 16 * (r + 1) ≡ start + 16 * r + 16 = omega arith in
+        ap (λ (w : Result Record PlanFault). joined_on ls js w (records_from file (places_of (start + 16 * (r + 1)) (count - (r + 1))))) (q ∙ is_record ls)
+        ∙ ap (λ (n : ℕ). joined_on ls js (record_at file (start + 16 * r) ls) (records_from file (places_of n (count - (r + 1))))) b
+        ∙ sym (ap (λ (m : ℕ). records_from file (places_of (start + 16 * r) m) ls js) s)
+
+    pub record_more : (ls : List Label) (js : List ℕ) (v : Record) → Ok v ≡ verdict x start r ls → records_from file (places_of (start + 16 * (r + 1)) (count - (r + 1))) (ls ++ v.label ∷ []) (js ++ join_of v.joined ∷ []) ≡ records_from file (places_of (start + 16 * r) (count - r)) ls js
+    record_more ls js v q = at_record ls js (Ok v) q
+
+    pub record_fault : (ls : List Label) (js : List ℕ) (f : PlanFault) → Err f ≡ verdict x start r ls → Err f ≡ records_from file (places_of (start + 16 * r) (count - r)) ls js
+    record_fault ls js f q = at_record ls js (Err f) q
+
+-- records at ps, then those at qs
+records_on : (file ps qs : List ℕ) (ls : List Label) (js : List ℕ) (rs : Records) → records_from file ps ls js ≡ Ok rs → records_from file (ps ++ qs) ls js ≡ records_from file qs rs.labels rs.joins
+records_on file [] qs ls js rs e = let same : record { labels = ls; joins = js } ≡ rs = cc in ap (λ (x : Records). records_from file qs x.labels x.joins) same
+records_on file (p ∷ ps) qs ls js rs e = go (record_at file p ls) e (λ us ks f. records_on file ps qs us ks rs f)
   where
-    go : (a n : ℕ) → places_of a (suc n) ≡ places_of a n ++ (a + 16 * n) ∷ []
-    go a zero = let e : a ≡ a + 16 * 0 = omega arith in ap (λ (x : ℕ). x ∷ []) e
-    go a (suc n) =
-        let e : a + 16 + 16 * n ≡ a + 16 * suc n = omega arith in
-        ap (λ (xs : List ℕ). a ∷ xs) (go (a + 16) n ∙ ap (λ (x : ℕ). places_of (a + 16) n ++ x ∷ []) e)
+    go : (v : Result Record PlanFault) → joined_on ls js v (records_from file ps) ≡ Ok rs → ((us : List Label) (ks : List ℕ) → records_from file ps us ks ≡ Ok rs → records_from file (ps ++ qs) us ks ≡ records_from file qs rs.labels rs.joins)
+        → joined_on ls js v (records_from file (ps ++ qs)) ≡ records_from file qs rs.labels rs.joins
+    go (Ok r) q rec = rec (ls ++ r.label ∷ []) (js ++ join_of r.joined ∷ []) q
+    go (Err f) q rec = cc
 
-pub add_more : (ps front : List ℕ) (at total k : ℕ) → total + k < length ps → take (total + k) ps ≡ front ++ places_of at k → take (total + (k + 1)) (set ps (total + k) (at + 16 * k)) ≡ front ++ places_of at (k + 1)
-add_more ps front at total k l inv =
-    let e : total + (k + 1) ≡ total + k + 1 = omega arith in
-    ap (λ (n : ℕ). take n (set ps (total + k) (at + 16 * k))) e ∙ take_more_set ps (total + k) (at + 16 * k) l ∙ ap (λ (xs : List ℕ). xs ++ (at + 16 * k) ∷ []) inv ∙ append_assoc front (places_of at k) _ ∙ sym (ap (λ (xs : List ℕ). front ++ xs) (places_more at k))
+records_off : (file ps qs : List ℕ) (ls : List Label) (js : List ℕ) (f : PlanFault) → records_from file ps ls js ≡ Err f → records_from file (ps ++ qs) ls js ≡ Err f
+records_off file [] qs ls js f e = cc
+records_off file (p ∷ ps) qs ls js f e = go (record_at file p ls) e (λ us ks g. records_off file ps qs us ks f g)
+  where
+    go : (v : Result Record PlanFault) → joined_on ls js v (records_from file ps) ≡ Err f → ((us : List Label) (ks : List ℕ) → records_from file ps us ks ≡ Err f → records_from file (ps ++ qs) us ks ≡ Err f) → joined_on ls js v (records_from file (ps ++ qs)) ≡ Err f
+    go (Ok r) q rec = rec (ls ++ r.label ∷ []) (js ++ join_of r.joined ∷ []) q
+    go (Err g) q rec = q
+
+-- as many more labels as records
+pub records_long : (file ps : List ℕ) (ls : List Label) (js : List ℕ) (rs : Records) → records_from file ps ls js ≡ Ok rs → length rs.labels ≡ length ls + length ps
+records_long file [] ls js rs e = let same : record { labels = ls; joins = js } ≡ rs = cc in omega (arith, ap (λ (x : Records). length x.labels) same)
+records_long file (p ∷ ps) ls js rs e = go (record_at file p ls) e (λ us ks f. records_long file ps us ks rs f)
+  where
+    go : (v : Result Record PlanFault) → joined_on ls js v (records_from file ps) ≡ Ok rs → ((us : List Label) (ks : List ℕ) → records_from file ps us ks ≡ Ok rs → length rs.labels ≡ length us + length ps) → length rs.labels ≡ length ls + length (p ∷ ps)
+    go (Ok r) q rec = omega (arith, rec (ls ++ r.label ∷ []) (js ++ join_of r.joined ∷ []) q, length-append ls (r.label ∷ []))
+    go (Err f) q rec = cc
+
+pub places_long : (p n : ℕ) → length (places_of p n) ≡ n
+places_long p zero = refl
+places_long p (suc n) = omega (arith, places_long (p + 16) n)
 
 -- blocks ----------------------------------------------------------------------------------------
 
--- the verdict on the block as the code cuts it out
-abbrev pub verdict_at : List ℕ → ℕ → ℕ → Result ℕ BlockFault
-verdict_at file n b = block_verdict (take (512 * b + 512 - 512 * b) (drop (512 * b) file)) b (eqb (b + 1) n) (512 * b)
+-- the blocks from block b on
+abbrev pub blocks_left : List ℕ → ℕ → List ℕ
+blocks_left file b = drop (512 * b) file
 
-module _ (file : List ℕ) (n b : ℕ) (more : b < n) (ps : List ℕ) where
-  at_block : (v : Result ℕ BlockFault) → v ≡ verdict_at file n b → placed (512 * b + 4) ps v (blocks_from file n (b + 1) (n - (b + 1))) ≡ blocks_from file n b (n - b) ps
-  at_block v e =
-      let whole : 512 * b + 512 - 512 * b ≡ 512 = omega arith in
-      let s : n - b ≡ suc (n - (b + 1)) = omega arith in
-      ap (λ r. placed (512 * b + 4) ps r (blocks_from file n (b + 1) (n - (b + 1)))) (e ∙ ap (λ (m : ℕ). block_verdict (take m (drop (512 * b) file)) b (eqb (b + 1) n) (512 * b)) whole)
-      ∙ sym (ap (λ (m : ℕ). blocks_from file n b m ps) s)
-
-  pub blocks_more : (count : ℕ) → Ok count ≡ verdict_at file n b → blocks_from file n (b + 1) (n - (b + 1)) (ps ++ places_of (512 * b + 4) count) ≡ blocks_from file n b (n - b) ps
-  blocks_more count e = at_block (Ok count) e
-
-  pub blocks_fault : (f : BlockFault) → Err f ≡ verdict_at file n b → Err (Block f) ≡ blocks_from file n b (n - b) ps
-  blocks_fault f e = at_block (Err f) e
-
--- a good block has at most 31 records
-pub verdict_small : (bs : List ℕ) (place : ℕ) (last : Bool) (byte c : ℕ) → Ok c ≡ block_verdict bs place last byte → c ≤ 31
-verdict_small bs place last byte c e = go (not (eqb (check_sum bs) (word bs 510))) (not (eqb (word bs 0) place)) (ltb 31 (get_or bs 2 0)) refl (not (eqb (get_or bs 3 0) (cond last 1 0))) (not (blank_from bs (4 + 16 * get_or bs 2 0))) e
+starts_more : (file : List ℕ) (b : ℕ) → starts file 0 (b + 1) ≡ starts file 0 b ++ places_of (512 * b + 4) (count_at file b)
+starts_more file b = ap (starts file 0) (add-one b) ∙ go 0 b ∙ ap (λ (k : ℕ). starts file 0 b ++ places_of (512 * k + 4) (count_at file k)) z
   where
-    go : (a x t : Bool) → ltb 31 (get_or bs 2 0) ≡ t → (y d : Bool) → ◌≡◌ {A = Result ℕ BlockFault} (Ok c) (cond a (Err (record { cause = Check; byte = byte })) (cond (x || (t || y)) (Err (record { cause = Header; byte = byte })) (cond d (Err (record { cause = Padding; byte = byte })) (Ok (get_or bs 2 0))))) → c ≤ 31
-    go true x t s y d q = let z : ◌≡◌ {A = ℕ} 0 1 = cc in absurd (omega arith)
-    go false true t s y d q = let z : ◌≡◌ {A = ℕ} 0 1 = cc in absurd (omega arith)
-    go false false true s y d q = let z : ◌≡◌ {A = ℕ} 0 1 = cc in absurd (omega arith)
-    go false false false s true d q = let z : ◌≡◌ {A = ℕ} 0 1 = cc in absurd (omega arith)
-    go false false false s false true q = let z : ◌≡◌ {A = ℕ} 0 1 = cc in absurd (omega arith)
-    go false false false s false false q = let k : c ≡ get_or bs 2 0 = cc in omega (arith, ltb-false 31 (get_or bs 2 0) s)
+    z : 0 + b ≡ b
+    z = omega arith
 
--- the records lie within the file
-places_within : (p n top : ℕ) → p + 16 * n ≤ top → AllByRecursion (λ p. p + 16 ≤ top) (places_of p n)
-places_within p zero top h = tt
-places_within p (suc n) top h = (omega arith, places_within (p + 16) n top (omega arith))
+    go : (a m : ℕ) → starts file a (suc m) ≡ starts file a m ++ places_of (512 * (a + m) + 4) (count_at file (a + m))
+    go a zero = let e : a ≡ a + 0 = omega arith in append-nil (places_of (512 * a + 4) (count_at file a)) ∙ ap (λ (k : ℕ). places_of (512 * k + 4) (count_at file k)) e
+    go a (suc m) =
+        let e : a + 1 + m ≡ a + suc m = omega arith in
+        ap (λ (xs : List ℕ). places_of (512 * a + 4) (count_at file a) ++ xs) (go (a + 1) m ∙ ap (λ (k : ℕ). starts file (a + 1) m ++ places_of (512 * k + 4) (count_at file k)) e)
+        ∙ sym (append_assoc (places_of (512 * a + 4) (count_at file a)) (starts file (a + 1) m) _)
 
-pub blocks_within : (file : List ℕ) (n b m top : ℕ) (ps qs : List ℕ) → 512 * (b + m) ≤ top → AllByRecursion (λ p. p + 16 ≤ top) ps → blocks_from file n b m ps ≡ Ok qs → AllByRecursion (λ p. p + 16 ≤ top) qs
-blocks_within file n b zero top ps qs h a e = let same : ps ≡ qs = cc in subst (AllByRecursion (λ p. p + 16 ≤ top)) same a
-blocks_within file n b (suc m) top ps qs h a e = go (block_verdict (block_at file b) b (eqb (b + 1) n) (512 * b)) refl e (λ us au f. blocks_within file n (b + 1) m top us qs (omega arith) au f)
-  where
-    go : (v : Result ℕ BlockFault) → block_verdict (block_at file b) b (eqb (b + 1) n) (512 * b) ≡ v → placed (512 * b + 4) ps v (blocks_from file n (b + 1) m) ≡ Ok qs
-        → ((us : List ℕ) → AllByRecursion (λ p. p + 16 ≤ top) us → blocks_from file n (b + 1) m us ≡ Ok qs → AllByRecursion (λ p. p + 16 ≤ top) qs) → AllByRecursion (λ p. p + 16 ≤ top) qs
-    go (Ok c) q f rec = rec (ps ++ places_of (512 * b + 4) c) (AllByRecursion-append (λ p. p + 16 ≤ top) ps (places_of (512 * b + 4) c) a (places_within (512 * b + 4) c top (omega (arith, verdict_small (block_at file b) b (eqb (b + 1) n) (512 * b) c (sym q))))) f
-    go (Err x) q f rec = let z : ◌≡◌ {A = ℕ} 0 1 = cc in absurd (omega arith)
+starts_first : (file : List ℕ) (n b : ℕ) → b < n → starts file b (n - b) ≡ places_of (512 * b + 4) (count_at file b) ++ starts file (b + 1) (n - (b + 1))
+starts_first file n b l = let s : n - b ≡ suc (n - (b + 1)) = omega arith in ap (starts file b) s
 
--- the halves of a record as the code cuts them out
-pub whole_record : (file : List ℕ) (p : ℕ) (ls : List Label) (first : Option Label) (second : Second) → first ≡ label_of (take (p + 8 - p) (drop p file)) → second ≡ second_of (take (p + 16 - (p + 8)) (drop (p + 8) file)) → judged first second p ls ≡ record_at file p ls
-whole_record file p ls first second e f =
-    let a : p + 8 - p ≡ 8 = omega arith in
-    let b : p + 16 - (p + 8) ≡ 8 = omega arith in
-    ap (λ (o : Option Label). judged o second p ls) (e ∙ ap (λ (n : ℕ). label_of (take n (drop p file))) a)
-    ∙ ap (λ (s : Second). judged (label_of (eight_at file p)) s p ls) (f ∙ ap (λ (n : ℕ). second_of (take n (drop (p + 8) file))) b)
+-- what is read of the blocks from b on, by what is read of block b
+pub run_done : (file : List ℕ) (n b c : ℕ) → b < n → count_at file b ≡ c → (ls : List Label) (js : List ℕ) (rs : Records) → Ok rs ≡ records_from file (places_of (512 * b + 4) c) ls js
+    → records_from file (starts file (b + 1) (n - (b + 1))) rs.labels rs.joins ≡ records_from file (starts file b (n - b)) ls js
+run_done file n b c l k ls js rs e =
+    sym (ap (λ (ps : List ℕ). records_from file ps ls js) (starts_first file n b l ∙ ap (λ (m : ℕ). places_of (512 * b + 4) m ++ starts file (b + 1) (n - (b + 1))) k)
+    ∙ records_on file (places_of (512 * b + 4) c) (starts file (b + 1) (n - (b + 1))) ls js rs (sym e))
+
+pub run_fault : (file : List ℕ) (n b c : ℕ) → b < n → count_at file b ≡ c → (ls : List Label) (js : List ℕ) (f : PlanFault) → Err f ≡ records_from file (places_of (512 * b + 4) c) ls js → Err f ≡ records_from file (starts file b (n - b)) ls js
+run_fault file n b c l k ls js f e =
+    sym (ap (λ (ps : List ℕ). records_from file ps ls js) (starts_first file n b l ∙ ap (λ (m : ℕ). places_of (512 * b + 4) m ++ starts file (b + 1) (n - (b + 1))) k)
+    ∙ records_off file (places_of (512 * b + 4) c) (starts file (b + 1) (n - (b + 1))) ls js f (sym e))
+
+pub starts_long : (file : List ℕ) (n b : ℕ) → b < n → length (starts file b (n - b)) ≡ count_at file b + length (starts file (b + 1) (n - (b + 1)))
+starts_long file n b l = omega (arith, ap length (starts_first file n b l), length-append (places_of (512 * b + 4) (count_at file b)) (starts file (b + 1) (n - (b + 1))), places_long (512 * b + 4) (count_at file b))
+
+module _ (file : List ℕ) (n b : ℕ) (whole : length file ≡ 512 * n) where
+  left_long : b ≤ n → length (blocks_left file b) ≡ 512 * (n - b)
+  left_long l = omega (arith, length-drop (512 * b) file)
+
+  pub blocks_end : b ≤ n → length (blocks_left file b) < 512 → b ≡ n
+  blocks_end l h = omega (arith, left_long l)
+
+  module _ (x t : List ℕ) (few : b ≤ n) (e : blocks_left file b ≡ x ++ t) (size : length x ≡ 512) where
+    pub blocks_more : b < n
+    blocks_more = omega (arith, left_long few, ap length e, length-append x t)
+
+    pub blocks_next : t ≡ blocks_left file (b + 1)
+    blocks_next =
+        let a : 512 * b + 512 ≡ 512 * (b + 1) = omega arith in
+        after_chunk (blocks_left file b) x t 512 e size ∙ drop-drop 512 (512 * b) file ∙ ap (λ (k : ℕ). drop k file) a
+
+    pub is_block : x ≡ block_at file b
+    is_block = first_chunk (blocks_left file b) x t 512 e size
+
+    at_block : (ps : List ℕ) (v : Result ℕ BlockFault) → v ≡ block_verdict x b (eqb (b + 1) n) (512 * b) → placed (512 * b + 4) ps v (blocks_from file n (b + 1) (n - (b + 1))) ≡ blocks_from file n b (n - b) ps
+    at_block ps v q =
+        let s : n - b ≡ suc (n - (b + 1)) = omega (arith, blocks_more) in
+        ap (λ r. placed (512 * b + 4) ps r (blocks_from file n (b + 1) (n - (b + 1)))) (q ∙ ap (λ (bs : List ℕ). block_verdict bs b (eqb (b + 1) n) (512 * b)) is_block)
+        ∙ sym (ap (λ (m : ℕ). blocks_from file n b m ps) s)
+
+    pub block_good : (c : ℕ) → Ok c ≡ block_verdict x b (eqb (b + 1) n) (512 * b) → GoodBlock file n b c
+    block_good c q = verdict_good file n b c (sym (q ∙ ap (λ (bs : List ℕ). block_verdict bs b (eqb (b + 1) n) (512 * b)) is_block))
+
+    pub block_fault : (ps : List ℕ) (f : BlockFault) → Err f ≡ block_verdict x b (eqb (b + 1) n) (512 * b) → Err (Block f) ≡ blocks_from file n b (n - b) ps
+    block_fault ps f q = at_block ps (Err f) q
+
+    pub block_more : (c : ℕ) → Ok c ≡ block_verdict x b (eqb (b + 1) n) (512 * b) → blocks_from file n (b + 1) (n - (b + 1)) (starts file 0 (b + 1)) ≡ blocks_from file n b (n - b) (starts file 0 b)
+    block_more c q =
+        let g = block_good c q in
+        ap (blocks_from file n (b + 1) (n - (b + 1))) (starts_more file b ∙ ap (λ (k : ℕ). starts file 0 b ++ places_of (512 * b + 4) k) g.count)
+        ∙ at_block (starts file 0 b) (Ok c) q
+
+    pub block_long : (c : ℕ) → Ok c ≡ block_verdict x b (eqb (b + 1) n) (512 * b) → length (starts file 0 (b + 1)) ≡ length (starts file 0 b) + c
+    block_long c q =
+        let g = block_good c q in
+        let k = g.count in
+        omega (arith, ap length (starts_more file b), length-append (starts file 0 b) (places_of (512 * b + 4) (count_at file b)), places_long (512 * b + 4) (count_at file b))

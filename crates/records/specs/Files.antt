@@ -1,49 +1,46 @@
 -- What a plan file says: its records, or its first fault.
-use Rattle.std.specs.Prelude.{◌≡◌, ℕ, zero, suc, ◌+◌, ◌*◌, ◌/◌, ◌%◌, ◌<◌, ◌≤◌, cond, not, ◌||◌, List, [], ◌∷◌, ◌++◌, length, take, drop, is_some, Some, None, Ok, Err, Option, Result, ◌==◌, nat_lt}
+use Rattle.std.specs.Prelude.{◌≡◌, ℕ, zero, suc, ◌+◌, ◌*◌, ◌/◌, ◌%◌, ◌<◌, ◌≤◌, cond, not, ◌||◌, List, [], ◌∷◌, ◌++◌, length, take, drop, is_some, option_map, position, Some, None, Ok, Err, Option, Result, ◌==◌, nat_lt, slice_index_or}
 use Rattle.label.specs.Labels.{label_of}
 use Rattle.label.specs.declared.label.Label.{Label}
 use Rattle.block.specs.Blocks.{block_verdict}
 use Rattle.block.specs.declared.fault.BlockFault.{BlockFault}
 use Rattle.tree.specs.Records.{Records}
-use Rattle.records.specs.Halves.{eight_at, second_of, unlawful, same_label}
+use Rattle.records.specs.Halves.{eight_at, second_of, same_label}
+use Rattle.records.specs.Lists.{join_of}
 use Rattle.records.specs.declared.fault.PlanFault.{PlanFault}
 use Rattle.records.specs.declared.fault.PlanFault.TheVariants.{Size, Block, Unlawful, Repeated, Joined, Count}
 use Rattle.records.specs.declared.record.Record.{Record}
-use Rattle.records.specs.declared.record.Second.{Second}
-use Rattle.records.specs.declared.record.Second.TheVariants.{Blank, Named, Other}
 
--- the place of a label among others, whose places count from k
-abbrev pub seek_from : Label → ℕ → List Label → Option ℕ
-seek_from label k [] = None
-seek_from label k (l ∷ ls) = cond (same_label l label) (Some k) (seek_from label (k + 1) ls)
+-- the place of a label among others
+abbrev pub seek : Label → List Label → Option ℕ
+seek label ls = position (λ l. same_label l label) ls
 
--- the place that a second half names, after records with the labels ls: blanks stand in the first record only, and a
--- label has to be that of an earlier record
-abbrev pub parent_for : Second → List Label → Option ℕ
-parent_for Blank [] = Some 0
-parent_for Blank (l ∷ ls) = None
-parent_for (Named m) ls = seek_from m 0 ls
-parent_for Other ls = None
+-- the place that a second half names, after records with the labels ls: none in the first record, whose second half
+-- is blank; in every other that of an earlier record, whose label it has
+abbrev pub parent_for : Option Label → List Label → Option (Option ℕ)
+parent_for None [] = Some None
+parent_for None (l ∷ ls) = None
+parent_for (Some m) ls = option_map (λ k. Some k) (seek m ls)
 
-abbrev pub joined_to : Label → Option ℕ → ℕ → Result Record PlanFault
+abbrev pub joined_to : Label → Option (Option ℕ) → ℕ → Result Record PlanFault
 joined_to label (Some parent) p = Ok (record { label = label; joined = parent })
 joined_to label None p = Err (Joined p)
 
 -- a record with that first label, if it is lawful, and that second half at byte p, after records with the labels ls:
 -- a label may be unlawful, the first label repeated, or the second break its rule, in this order
-abbrev pub judged : Option Label → Second → ℕ → List Label → Result Record PlanFault
+abbrev pub judged : Option Label → Result (Option Label) PlanFault → ℕ → List Label → Result Record PlanFault
 judged None second p ls = Err (Unlawful p)
-judged (Some label) second p ls =
-    cond (unlawful second) (Err (Unlawful p))
-    (cond (is_some (seek_from label 0 ls)) (Err (Repeated p))
-    (joined_to label (parent_for second ls) p))
+judged (Some label) (Err e) p ls = Err e
+judged (Some label) (Ok second) p ls =
+    cond (is_some (seek label ls)) (Err (Repeated p))
+    (joined_to label (parent_for second ls) p)
 
 -- the record at byte p of a file, after records with the labels ls
 abbrev pub record_at : List ℕ → ℕ → List Label → Result Record PlanFault
-record_at file p ls = judged (label_of (eight_at file p)) (second_of (eight_at file (p + 8))) p ls
+record_at file p ls = judged (label_of (eight_at file p)) (second_of p (eight_at file (p + 8))) p ls
 
 abbrev pub joined_on : List Label → List ℕ → Result Record PlanFault → (List Label → List ℕ → Result Records PlanFault) → Result Records PlanFault
-joined_on ls js (Ok r) next = next (ls ++ r.label ∷ []) (js ++ r.joined ∷ [])
+joined_on ls js (Ok r) next = next (ls ++ r.label ∷ []) (js ++ join_of r.joined ∷ [])
 joined_on ls js (Err e) next = Err e
 
 -- the records at those bytes, after records with the labels ls and the joins js: causes 5, 6 and 7, record by record
@@ -87,17 +84,21 @@ in_blocks file (Some n) = counted file (blocks_from file n 0 n [])
 abbrev pub read_file : List ℕ → Result Records PlanFault
 read_file file = in_blocks file (sized (length file))
 
--- the first n of two arrays are what was read, or the fault is the same
-abbrev pub Got : Result ℕ PlanFault → List Label → List ℕ → Result Records PlanFault → Type 0
-Got (Ok n) ls js r = (0 < n) × (n ≤ 1024) × (Ok (record { labels = take n ls; joins = take n js }) ≡ r)
-Got (Err e) ls js r = Err e ≡ r
+-- how many records block b says that it has
+abbrev pub count_at : List ℕ → ℕ → ℕ
+count_at file b = slice_index_or (block_at file b) 2 0
 
--- what was read where the two lists are filled, or a fault
-abbrev pub told : Result Unit PlanFault → List Label → List ℕ → Result Records PlanFault
-told (Ok x) ls js = Ok (record { labels = ls; joins = js })
-told (Err e) ls js = Err e
+-- the bytes where the records of m blocks from block b on start, by their counts
+abbrev pub starts : List ℕ → ℕ → ℕ → List ℕ
+starts file b zero = []
+starts file b (suc m) = places_of (512 * b + 4) (count_at file b) ++ starts file (b + 1) m
 
--- the first n of an array are the bytes where records start, or the fault is the same
-abbrev pub Placed : Result ℕ PlanFault → List ℕ → Result (List ℕ) PlanFault → Type 0
-Placed (Ok n) ps r = (n ≤ 1054) × (Ok (take n ps) ≡ r)
-Placed (Err e) ps r = Err e ≡ r
+-- the blocks of the file, n of them, have that many records, each at most 31, where they are judged good; or the fault is the same
+abbrev pub Judged : List ℕ → ℕ → Result ℕ PlanFault → Type 0
+Judged file n (Ok total) = (blocks_from file n 0 n [] ≡ Ok (starts file 0 n)) × (length (starts file 0 n) ≡ total) × (total ≤ 31 * n) × ((b : ℕ) → b < n → count_at file b ≤ 31)
+Judged file n (Err e) = Err e ≡ blocks_from file n 0 n []
+
+-- the records as they then are, or the fault
+abbrev pub told : Result Unit PlanFault → Records → Result Records PlanFault
+told (Ok x) rs = Ok rs
+told (Err e) rs = Err e

@@ -4,7 +4,9 @@ ghost use Rattle.records.specs.Faults.{plan_told};
 ghost use Rattle.records.specs.declared.fault.PlanFault.TheVariants.{Block};
 
 use block::BlockFault;
-use label::{Diagnostic, Layer};
+use label::{Diagnostic, Fault, Layer};
+use std::error::Error;
+use std::fmt;
 
 // The file is empty, not whole blocks or too long; a block is at fault; or a record is, which starts at that byte of
 // the file: a label is unlawful, its first label is repeated, or its second label names no earlier station. The last
@@ -27,37 +29,50 @@ impl From<BlockFault> for PlanFault {
     }
 }
 
-impl PlanFault {
-    pub fn diagnostic(&self) -> Diagnostic
-        ensures { result ≡ plan_told self.now }
-    {
+impl fmt::Display for PlanFault {
+    fn fmt<W: fmt::Write>(&self, f: &mut fmt::Formatter<W>) -> fmt::Result {
         match self {
-            PlanFault::Size => Diagnostic {
-                number: 1,
-                layer: Layer::Plan,
-                byte: 0,
-            },
-            PlanFault::Block(fault) => fault.diagnostic(),
-            PlanFault::Unlawful(byte) => Diagnostic {
-                number: 5,
-                layer: Layer::Plan,
-                byte: *byte,
-            },
-            PlanFault::Repeated(byte) => Diagnostic {
-                number: 6,
-                layer: Layer::Plan,
-                byte: *byte,
-            },
-            PlanFault::Joined(byte) => Diagnostic {
-                number: 7,
-                layer: Layer::Plan,
-                byte: *byte,
-            },
-            PlanFault::Count => Diagnostic {
-                number: 8,
-                layer: Layer::Plan,
-                byte: 0,
-            },
+            PlanFault::Size => f.write_str(
+                "The file is not a plan file: it is empty, is not made of whole blocks of 512 bytes, or has more than 34 blocks",
+            ),
+            PlanFault::Block(fault) => write!(f, "{fault}"),
+            PlanFault::Unlawful(byte) => write!(
+                f,
+                "The plan is wrong: a label in the record at byte {byte} is not 1 to 8 capital letters, digits or hyphens with blanks behind them"
+            ),
+            PlanFault::Repeated(byte) => write!(
+                f,
+                "The plan is wrong: the record at byte {byte} gives a station that the plan already has"
+            ),
+            PlanFault::Joined(byte) => write!(
+                f,
+                "The plan is wrong: the record at byte {byte} is joined to no earlier station, or it is the first record and is joined to one"
+            ),
+            PlanFault::Count => f.write_str(
+                "The plan is wrong: it has no station, or more than 1,024 stations",
+            ),
+        }
+    }
+}
+
+impl Error for PlanFault {}
+
+impl Fault for PlanFault {
+    ghost told = { plan_told };
+
+    fn diagnostic(&self) -> Diagnostic {
+        let (number, byte) = match *self {
+            PlanFault::Block(fault) => return fault.diagnostic(),
+            PlanFault::Size => (1, 0),
+            PlanFault::Unlawful(byte) => (5, byte),
+            PlanFault::Repeated(byte) => (6, byte),
+            PlanFault::Joined(byte) => (7, byte),
+            PlanFault::Count => (8, 0),
+        };
+        Diagnostic {
+            number,
+            layer: Layer::Plan,
+            byte,
         }
     }
 }

@@ -1,59 +1,12 @@
 // The blocks of a plan file, and the records in them.
-ghost use Rattle.std.specs.Prelude.{◌≡◌, ◌+◌, ◌*◌, ◌≤◌, [], ◌++◌, length, take, All};
-ghost use Rattle.records.specs.Accepts.{ReadWhenGood};
-ghost use Rattle.records.specs.Files.{records_from, told, places_of, blocks_from, sized, counted, read_file, Placed, Got};
+ghost use Rattle.std.specs.Prelude.{◌≡◌, ℕ, ◌+◌, ◌*◌, ◌/◌, ◌<◌, ◌≤◌, [], length, IfOk};
+ghost use Rattle.records.specs.Accepts.{ReadWhenGood, Sound};
+ghost use Rattle.records.specs.Files.{records_from, told, places_of, starts, count_at, sized, read_file, Judged};
 
 use crate::fault::PlanFault;
+use crate::list::Records;
 use crate::record::read_record;
 use block::check_block;
-use label::Label;
-
-// The records at those bytes, each judged against those before it.
-fn read_records(
-    file: &[u8],
-    places: &[u32],
-    labels: &mut [Label; 1024],
-    joined: &mut [u16; 1024],
-) -> Result<(), PlanFault>
-    requires few { length places.now ≤ 1024 }
-    requires within { All (λ p. p + 16 ≤ length file.now) places.now }
-    ensures { told result (take (length places.now) labels.new) (take (length places.now) joined.new) ≡ records_from file.now places.now [] [] }
-{
-    for k in 0..places.len() {
-        let record = read_record(file, places[k] as usize, &labels[..k])?;
-        labels[k] = record.label;
-        joined[k] = record.joined;
-    }
-    Ok(())
-}
-
-// Adds the bytes where a block's records start.
-fn add_places(places: &mut [u32; 1054], total: usize, at: usize, count: usize) -> usize
-    requires room { total + count ≤ 1054 }
-    requires small { at + 16 * count ≤ 20000 }
-    ensures value { result ≡ total + count }
-    ensures added { take (total + count) places.new ≡ take total places.old ++ places_of at count }
-{
-    for k in 0..count {
-        places[total + k] = (at + 16 * k) as u32;
-    }
-    total + count
-}
-
-// Judges all blocks and says how many records they have, with the bytes where those start.
-fn judge_blocks(file: &[u8], count: usize, places: &mut [u32; 1054]) -> Result<usize, PlanFault>
-    requires whole { length file.now ≡ 512 * count }
-    requires few { count ≤ 34 }
-    ensures { Placed result places.new (blocks_from file.now count 0 count []) }
-{
-    let mut total = 0;
-    for b in 0..count {
-        let start = 512 * b;
-        let records = check_block(&file[start..start + 512], b as u32, b + 1 == count, start)?;
-        total = add_places(places, total, start + 4, records);
-    }
-    Ok(total)
-}
 
 // How many blocks a file has, where its length is that of 1 to 34 whole blocks.
 fn count_blocks(file: &[u8]) -> Option<usize>
@@ -67,38 +20,57 @@ fn count_blocks(file: &[u8]) -> Option<usize>
     }
 }
 
-// All blocks are judged before any record.
-fn read_blocks(
-    file: &[u8],
-    count: usize,
-    labels: &mut [Label; 1024],
-    joined: &mut [u16; 1024],
-) -> Result<usize, PlanFault>
-    requires whole { length file.now ≡ 512 * count }
-    requires few { count ≤ 34 }
-    ensures { Got result labels.new joined.new (counted file.now (blocks_from file.now count 0 count [])) }
+// Judges all blocks, and says how many records they have.
+fn judge_blocks(file: &[u8], blocks: usize) -> Result<usize, PlanFault>
+    requires whole { length file.now ≡ 512 * blocks }
+    requires few { blocks ≤ 34 }
+    ensures { Judged file.now blocks result }
 {
-    let mut places = [0u32; 1054];
-    let total = judge_blocks(file, count, &mut places)?;
-    if total == 0 || total > 1024 {
-        return Err(PlanFault::Count);
+    let mut total = 0;
+    for (b, block) in file.chunks_exact(512).enumerate() {
+        total += check_block(block, b as u32, b + 1 == blocks, 512 * b)?;
     }
-    read_records(file, &places[..total], labels, joined)?;
     Ok(total)
 }
 
-// Reads a file's records, in the file's order, to the front of the two arrays, and says how many they are; or tells
-// the file's first fault.
-pub fn read(
-    file: &[u8],
-    labels: &mut [Label; 1024],
-    joined: &mut [u16; 1024],
-) -> Result<usize, PlanFault>
-    ensures value { Got result labels.new joined.new (read_file file.now) }
+// Reads that many records from byte `start` of the file on, after those that are read.
+fn read_run(file: &[u8], start: usize, count: usize, records: &mut Records) -> Result<(), PlanFault>
+    requires within { start + 16 * count ≤ length file.now }
+    requires few { length records.old.labels + count ≤ 1024 }
+    ensures { told result records.new ≡ records_from file.now (places_of start count) records.old.labels records.old.joins }
+{
+    for (r, bytes) in file[start..start + 16 * count].chunks_exact(16).enumerate() {
+        let record = read_record(bytes, start + 16 * r, records.as_slice())?;
+        records.push(record);
+    }
+    Ok(())
+}
+
+// Reads the records of blocks that are judged good.
+fn read_records(file: &[u8], blocks: usize) -> Result<Records, PlanFault>
+    requires whole { length file.now ≡ 512 * blocks }
+    requires small { (b : ℕ) → b < blocks → count_at file.now b ≤ 31 }
+    requires few { length (starts file.now 0 blocks) ≤ 1024 }
+    ensures { result ≡ records_from file.now (starts file.now 0 blocks) [] [] }
+{
+    let mut records = Records::new();
+    for (b, block) in file.chunks_exact(512).enumerate() {
+        read_run(file, 512 * b + 4, usize::from(block[2]), &mut records)?;
+    }
+    Ok(records)
+}
+
+// Reads a file's records, in the file's order, or tells the file's first fault. All blocks are judged before any record.
+#[tactic(auto, using(crate::proofs::Accepting::read_when_good))]
+pub fn read(file: &[u8]) -> Result<Records, PlanFault>
+    ensures value { result ≡ read_file file.now }
+    ensures sound { IfOk result Sound }
     ensures accepted { ReadWhenGood }
 {
-    match count_blocks(file) {
-        Some(count) => read_blocks(file, count, labels, joined),
-        None => Err(PlanFault::Size),
+    let blocks = count_blocks(file).ok_or(PlanFault::Size)?;
+    let total = judge_blocks(file, blocks)?;
+    if total == 0 || total > 1024 {
+        return Err(PlanFault::Count);
     }
+    read_records(file, blocks)
 }

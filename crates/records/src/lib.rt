@@ -4,7 +4,10 @@
 
 mod fault;
 mod file;
+mod list;
 mod record;
 
 pub use fault::PlanFault;
 pub use file::read;
+pub use list::Records;
+pub use record::Record;

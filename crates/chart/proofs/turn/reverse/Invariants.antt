@@ -1,9 +1,18 @@
-use Rattle.std.proofs.Common.{◌≡◌, ◌+◌, ◌≤◌, get_or}
+use Rattle.std.proofs.Common.{◌≡◌, ◌+◌, ◌≤◌, length, get_or}
+use Rattle.records.specs.Lists.{joins_of}
 use Rattle.tree.specs.Turned.{Turned}
+use Rattle.chart.specs.Links.{ups_of, depths_of}
 use Rattle.chart.proofs.turn.reverse.Given as goal
 
-abbrev pub invariant-loop-cur : goal.invariant-loop-cur
-invariant-loop-cur l = Turned l.joined l.root l.up l.depth l.cur × (l.cur ≤ l.root) × (get_or l.depth l.cur 0 ≡ l.level) × (l.level + l.cur ≤ l.root + 1)
+abbrev pub invariant-loop-here : goal.invariant-loop-here
+invariant-loop-here l =
+    record {
+      long : length l.links ≡ 1024;
+      turned : Turned (joins_of l.rows) l.root (ups_of l.links) (depths_of l.links) l.here;
+      low : l.here ≤ l.root;
+      at : get_or (depths_of l.links) l.here 0 ≡ l.link.depth;
+      deep : l.link.depth + l.here ≤ l.root + 1;
+    }
 
-abbrev pub decreases-loop-cur : goal.decreases-loop-cur
-decreases-loop-cur l = l.cur
+abbrev pub decreases-loop-here : goal.decreases-loop-here
+decreases-loop-here l = l.here

@@ -1,0 +1,10 @@
+// A leg as it is seen from the station that is farther from the root.
+ghost use Rattle.std.specs.Prelude.{◌<◌};
+
+// The record of the next station towards the root, which is its own, and the depth of this one.
+#[derive(Clone, Copy)]
+pub struct Link {
+    pub up: u16,
+    pub depth: u16,
+    ghost some: { 0 < depth },
+}
