@@ -1,15 +1,14 @@
 // The worked examples of the two lines through the public calls.
 use line::{Line, follow};
 use lines::{Graded, Halving};
-use slot::{Kind, Position};
+use slot::Position;
 use std::test::Fail;
-use wire::{Crew, Inbox};
+use wire::{Crew, Frame, Inbox};
 
 // Puts a frame of one slot with a position at a sender's place.
 fn tell(inbox: &mut Inbox, sender: usize, number: usize) {
-    let mut slot = [0u8; 2];
-    Position::nearest(number).write(&mut slot);
-    inbox.put(sender, &slot);
+    let frame = Frame::single(Position::nearest(number));
+    inbox.put(sender, frame.bytes());
 }
 
 // A position that is missing counts as 1 and not as the own one: 2, 4 and the own 6 with one missing give 3; with the own

@@ -1,5 +1,5 @@
 // The worked examples through the public calls.
-use label::Label;
+use label::{Fault, Label};
 use plan::Plan;
 use records::PlanFault;
 use std::process::Abort;
