@@ -1,5 +1,8 @@
 -- The stations of the example cave are those of its records.
-use Rattle.std.proofs.Common.{◌≡◌, ℕ, zero, suc, ◌<◌, ◌≤◌, ◌⊎◌, List, [], ◌∷◌, get_or, sym, refl, ap, ◌∙◌, inl, inr, arith}
+use Rattle.std.proofs.Common.{◌≡◌, ℕ, zero, suc, ◌<◌, ◌≤◌, ◌⊎◌, List, [], ◌∷◌, get_or, sym, refl, ap, ◌∙◌, ◌≢◌, inl, inr, arith, rules}
+use Rattle.std.specs.List.{AllPairs, IsDistinct}
+use Rattle.std.proofs.lemmas.Map.Made.{AllPairs-from_IsDistinct}
+use Rattle.std.proofs.lemmas.Bool.Decides.{Decides-eqb}
 use Rattle.label.specs.declared.label.Label.{Label}
 use Rattle.label.specs.Orders.{key_of}
 use Rattle.tree.specs.Records.{label_at, Different, Earlier}
@@ -38,31 +41,25 @@ ds = 2 ∷ 1 ∷ 3 ∷ 4 ∷ 4 ∷ 5 ∷ []
 earlier : Earlier js
 earlier k p l = six (λ i. 0 < i → get_or js i 0 < i) (λ q. absurd (omega arith)) (λ q. omega arith) (λ q. omega arith) (λ q. omega arith) (λ q. omega arith) (λ q. omega arith) k l p
 
-keys : ℕ → ℕ
-keys i = get_or (0x454E542020202020 ∷ 0x4139202020202020 ∷ 0x4331202020202020 ∷ 0x4332202020202020 ∷ 0x4333202020202020 ∷ 0x4431202020202020 ∷ []) i 0
+-- the labels as numbers, in file order
+key_list : List ℕ
+key_list = 0x454E542020202020 ∷ 0x4139202020202020 ∷ 0x4331202020202020 ∷ 0x4332202020202020 ∷ 0x4333202020202020 ∷ 0x4431202020202020 ∷ []
 
-key_is : (i : ℕ) → i < 6 → key_of (label_at ls i) ≡ keys i
-unfolding keys
-key_is i l = six (λ k. key_of (label_at ls k) ≡ keys k) refl refl refl refl refl refl i l
+key_is : (i : ℕ) → i < 6 → key_of (label_at ls i) ≡ get_or key_list i 0
+unfolding key_list
+key_is i l = six (λ k. key_of (label_at ls k) ≡ get_or key_list k 0) refl refl refl refl refl refl i l
 
-apart : (i j : ℕ) → i < j → j < 6 → keys i ≡ keys j → ⊥
-unfolding keys
-apart i j lt l =
-    six (λ b. i < b → keys i ≡ keys b → ⊥)
-    (λ h e. omega arith)
-    (λ h. six (λ a. a < 1 → keys a ≡ keys 1 → ⊥) (λ _ e. omega arith) (λ q e. omega arith) (λ q e. omega arith) (λ q e. omega arith) (λ q e. omega arith) (λ q e. omega arith) i (omega arith) h)
-    (λ h. six (λ a. a < 2 → keys a ≡ keys 2 → ⊥) (λ _ e. omega arith) (λ _ e. omega arith) (λ q e. omega arith) (λ q e. omega arith) (λ q e. omega arith) (λ q e. omega arith) i (omega arith) h)
-    (λ h. six (λ a. a < 3 → keys a ≡ keys 3 → ⊥) (λ _ e. omega arith) (λ _ e. omega arith) (λ _ e. omega arith) (λ q e. omega arith) (λ q e. omega arith) (λ q e. omega arith) i (omega arith) h)
-    (λ h. six (λ a. a < 4 → keys a ≡ keys 4 → ⊥) (λ _ e. omega arith) (λ _ e. omega arith) (λ _ e. omega arith) (λ _ e. omega arith) (λ q e. omega arith) (λ q e. omega arith) i (omega arith) h)
-    (λ h. six (λ a. a < 5 → keys a ≡ keys 5 → ⊥) (λ _ e. omega arith) (λ _ e. omega arith) (λ _ e. omega arith) (λ _ e. omega arith) (λ _ e. omega arith) (λ q e. omega arith) i (omega arith) h)
-    j l lt
+apart : AllPairs (λ (x y : ℕ). x ≢ y) key_list
+unfolding key_list IsDistinct
+apart = AllPairs-from_IsDistinct Decides-eqb key_list (search rules)
 
 different : Different ls
-different i j lt l e = apart i j lt l (sym (key_is i (omega arith)) ∙ ap key_of e ∙ key_is j l)
+unfolding key_list
+different i j lt l e = apart i j 0 lt l (sym (key_is i (omega arith)) ∙ ap key_of e ∙ key_is j l)
 
 least : Lowest ls 1 6
-unfolding keys
-least = (omega arith, λ j l. omega (arith, key_is 1 (omega arith), key_is j l, six (λ k. keys 1 ≤ keys k) (omega arith) (omega arith) (omega arith) (omega arith) (omega arith) (omega arith) j l))
+unfolding key_list
+least = (omega arith, λ j l. omega (arith, key_is 1 (omega arith), key_is j l, six (λ k. get_or key_list 1 0 ≤ get_or key_list k 0) (omega arith) (omega arith) (omega arith) (omega arith) (omega arith) (omega arith) j l))
 
 settled : Settled js 1 ups ds
 settled =

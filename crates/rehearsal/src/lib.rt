@@ -7,6 +7,7 @@ ghost use Rattle.rehearsal.specs.Rounds.{WorkedRounds};
 ghost use Rattle.rehearsal.specs.Table.{Worked};
 
 // How many stations the example cave has; its contract names the table of worked examples.
+#[tactic(auto, using(crate::proofs::Examples::worked))]
 pub fn example_size() -> usize
     ensures value { result ≡ length example_stations }
     ensures table { Worked }
@@ -15,6 +16,7 @@ pub fn example_size() -> usize
 }
 
 // How many units the examples of the rounds have; its contract names the table of their worked examples.
+#[tactic(auto, using(crate::proofs::Rounds::worked_rounds))]
 pub fn example_units() -> usize
     ensures value { result ≡ 4 }
     ensures table { WorkedRounds }

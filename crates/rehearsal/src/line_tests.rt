@@ -1,15 +1,14 @@
 // The worked examples of the two lines through the public calls.
 use line::{Line, follow};
 use lines::{Graded, Halving};
-use slot::{Kind, Position};
+use slot::Position;
 use std::test::Fail;
 use wire::{Crew, Frame, Inbox};
 
 // Puts a frame of one slot with a position at a sender's place.
 fn tell(inbox: &mut Inbox, sender: usize, number: usize) {
-    let mut slot = [0u8; 2];
-    Position::nearest(number).write(&mut slot);
-    inbox.put(sender, &slot);
+    let frame = Frame::single(Position::nearest(number));
+    inbox.put(sender, frame.bytes());
 }
 
 // A position that is missing counts as 1 and not as the own one: 2, 4 and the own 6 with one missing give 3; with the own
@@ -44,30 +43,30 @@ fn outside_is_cut(rt: HostRuntime) -> Result<(), Fail> {
     Ok(())
 }
 
-fn take_all(sent: &[Frame; 3]) -> Inbox {
+// Plays a round in which the units take one another's frames.
+fn play_round(units: &mut [Graded; 3]) {
     let mut inbox = Inbox::new();
-    for (sender, frame) in sent.iter().enumerate() {
-        inbox.put(sender, frame.bytes());
+    for (sender, unit) in units.iter().enumerate() {
+        inbox.put(sender, unit.frame().bytes());
     }
-    inbox
+    for unit in units.iter_mut() {
+        unit.step(&inbox);
+    }
 }
 
 // Three of four units follow the graded line and the fourth is silent: its position counts as 1 at all of them, so that
 // 2, 5 and 8 with it give (2 + 5) / 2 = 3 at once, and no one moves again.
 #[test]
 fn silent_unit_counts_as_one(rt: HostRuntime) -> Result<(), Fail> {
-    let mut a = Graded::start(Crew::new(4, 1, 0)?, 9, 2);
-    let mut b = Graded::start(Crew::new(4, 1, 1)?, 9, 5);
-    let mut c = Graded::start(Crew::new(4, 1, 2)?, 9, 8);
-    for _ in 0..a.rounds() {
-        let inbox = take_all(&[a.frame(), b.frame(), c.frame()]);
-        a.step(&inbox);
-        b.step(&inbox);
-        c.step(&inbox);
+    let mut units = [
+        Graded::start(Crew::new(4, 1, 0)?, 9, 2),
+        Graded::start(Crew::new(4, 1, 1)?, 9, 5),
+        Graded::start(Crew::new(4, 1, 2)?, 9, 8),
+    ];
+    for _ in 0..units[0].rounds() {
+        play_round(&mut units);
     }
-    assert_eq!(rt; a.result(), 3);
-    assert_eq!(rt; b.result(), 3);
-    assert_eq!(rt; c.result(), 3);
-    assert_eq!(rt; a.frame().bytes().len(), 0);
+    assert_eq!(rt; units.each_ref().map(|unit| unit.result()), [3, 3, 3]);
+    assert_eq!(rt; units[0].frame().bytes().len(), 0);
     Ok(())
 }

@@ -32,7 +32,7 @@ impl fmt::Display for HexFault {
     }
 }
 
-// The value of a hex digit.
+// The value of a hex digit; the library's `to_digit` would take capitals too.
 fn digit(byte: u8) -> Result<u8, HexFault>
     ensures reads { IfOk result (λ d. (d < 16) × (digit_of d ≡ byte)) }
     ensures refuses { IfErr result (λ e. (e ≡ NoDigit) × NotDigit byte) }
@@ -55,6 +55,7 @@ fn pair(high: u8, low: u8) -> Result<u8, HexFault>
 }
 
 // The bytes that a text of hex digits gives.
+#[tactic(auto, using(crate::proofs::Digits::whole, crate::proofs::Digits::odd_none))]
 pub fn read_hex(heap: Global, text: &[u8]) -> Result<Vec<u8>, HexFault>
     ensures reads { IfOk result (λ v. Writes text.now v.items) }
     ensures refuses { IfErr result (λ e. (e ≡ Memory) ⊎ WritesNone text.now) }

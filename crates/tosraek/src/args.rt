@@ -1,4 +1,5 @@
 // What the program is asked to do.
+use itertools::Itertools;
 use std::{env, io};
 
 pub const USAGE: &str = "usage:
@@ -34,26 +35,13 @@ fn job_of(verb: &str, operand: Option<String>, more: Option<String>) -> Job {
     }
 }
 
-// Words parted by blanks.
-fn joined(rt: &HostRuntime, words: &[String]) -> io::Result<String> {
-    let mut text = String::new(rt.alloc());
-    for (i, word) in words.iter().enumerate() {
-        if i > 0 {
-            text.push(' ')?;
-        }
-        text.push_str(word.as_str())?;
-    }
-    Ok(text)
-}
-
 pub fn chosen_job(rt: &HostRuntime) -> io::Result<Job> {
     let mut words = env::args(rt)?.skip(1);
     let Some(verb) = words.next() else {
         return Ok(Job::Usage);
     };
     if verb.as_str() == "line" {
-        let rest: Vec<String> = words.collect(rt.alloc())?;
-        return Ok(Job::Line(joined(rt, rest.as_slice())?));
+        return Ok(Job::Line(words.join(rt.alloc(), " ")?));
     }
     let operand = words.next();
     let more = words.next();

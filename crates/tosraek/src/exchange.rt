@@ -1,20 +1,51 @@
 // One whole exchange of grading: four units, at most one of them faulty. Units 0 to 2 are honest, and unit 3 tells two
 // stories.
-use crate::grades::grade_text;
+use crate::grades::Shown;
+use crate::inbox::inbox_of;
 use grading::Grading;
+use itertools::Itertools;
 use script::Sentence;
 use slot::Position;
-use std::io;
+use std::{fmt, io};
 use wire::{Crew, CrewFault, Frame, Inbox, write_slot};
+
+const UNITS: usize = 4;
+
+const FAULTY: usize = 1;
+
+const TELLER: usize = 3;
+
+const ROUNDS: usize = 3;
+
+// The value of units 0 and 2, and that of unit 1.
+const FIVE: usize = 5;
+
+const NINE: usize = 9;
+
+// A slot as it is shown: its value, or `-` where it is missing.
+#[derive(Clone, Copy)]
+struct Slot(Option<Position>);
+
+impl fmt::Display for Slot {
+    fn fmt<W: fmt::Write>(&self, f: &mut fmt::Formatter<W>) -> fmt::Result {
+        match self.0 {
+            Some(position) => write!(f, "{}", position.number()),
+            None => f.write_str("-"),
+        }
+    }
+}
+
+// How many slots a frame of a round has.
+fn slots_in(round: usize) -> usize {
+    if round == 1 { 1 } else { UNITS }
+}
 
 // What unit 3 tells a receiver of its own value.
 fn story(round: usize, receiver: usize) -> Option<Position> {
     match (round, receiver) {
-        (1, 2) => Position::new(9),
-        (2, 1) => Position::new(9),
-        (2, 2) => Position::new(9),
         (3, 1) => None,
-        _ => Position::new(5),
+        (1, 2) | (2, 1) | (2, 2) => Some(Position::nearest(NINE)),
+        _ => Some(Position::nearest(FIVE)),
     }
 }
 
@@ -23,67 +54,49 @@ fn faulty_frame(round: usize, receiver: usize) -> Frame {
     let mut slots = [0u8; 8];
     let told = story(round, receiver);
     if round == 1 {
-        write_slot(told, &mut slots[0..2]);
-        Frame::new(&slots[0..2])
+        write_slot(told, &mut slots[..2]);
+        Frame::new(&slots[..2])
     } else {
-        write_slot(told, &mut slots[6..8]);
+        write_slot(told, &mut slots[6..]);
         Frame::new(&slots)
     }
 }
 
 // What came to a receiver in a round.
 fn taken(sent: &[Frame; 3], round: usize, receiver: usize) -> Inbox {
-    let mut inbox = Inbox::new();
-    for (sender, frame) in sent.iter().enumerate() {
-        inbox.put(sender, frame.bytes());
-    }
-    inbox.put(3, faulty_frame(round, receiver).bytes());
+    let mut inbox = inbox_of(sent);
+    inbox.put(TELLER, faulty_frame(round, receiver).bytes());
     inbox
 }
 
 fn show_taken(rt: &HostRuntime, round: usize, receiver: usize, inbox: &Inbox) -> io::Result<()> {
-    let heap = rt.alloc();
     println!(rt; "  unit {receiver} took")?;
-    let slots = if round == 1 { 1 } else { 4 };
-    for sender in 0..4usize {
-        let mut line = String::new(heap);
-        for s in 0..slots {
-            match inbox.slot::<Position>(sender, slots, s) {
-                Some(position) => {
-                    let number = position.number();
-                    line.push_str(format!(in heap; " {number}")?.as_str())?;
-                }
-                None => line.push_str(" -")?,
-            }
-        }
-        println!(rt; "    from {sender}:{line}")?;
+    let slots = slots_in(round);
+    for sender in 0..UNITS {
+        let line = (0..slots)
+            .map(|s| Slot(inbox.slot(sender, slots, s)))
+            .join(rt.alloc(), " ")?;
+        println!(rt; "    from {sender}: {line}")?;
     }
     Ok(())
 }
 
-// How many of the four frames carry a position in the slot of unit 3.
+// How many of the frames carry a position in the slot of unit 3.
 fn tally_of(inbox: &Inbox, number: usize) -> usize {
-    match Position::new(number) {
-        Some(position) => inbox.tally(4, 3, position),
-        None => 0,
-    }
+    inbox.tally(UNITS, TELLER, Position::nearest(number))
 }
 
 fn show_counts(rt: &HostRuntime, receiver: usize, inbox: &Inbox) -> io::Result<()> {
-    let fives = tally_of(inbox, 5);
-    let nines = tally_of(inbox, 9);
-    println!(rt; "  unit {receiver} counts of unit 3: 5 in {fives}, 9 in {nines}")
+    let fives = tally_of(inbox, FIVE);
+    let nines = tally_of(inbox, NINE);
+    println!(rt; "  unit {receiver} counts of unit {TELLER}: {FIVE} in {fives}, {NINE} in {nines}")
 }
 
 fn show_grades(rt: &HostRuntime, receiver: usize, unit: &Grading<Position>) -> io::Result<()> {
-    let heap = rt.alloc();
-    let mut line = String::new(heap);
-    for s in 0..4usize {
-        let word = grade_text(heap, unit.grade(s))?;
-        line.push(' ')?;
-        line.push_str(word.as_str())?;
-    }
-    println!(rt; "  at unit {receiver}:{line}")
+    let grades = (0..UNITS)
+        .map(|sender| Shown(unit.grade(sender)))
+        .join(rt.alloc(), " ")?;
+    println!(rt; "  at unit {receiver}: {grades}")
 }
 
 fn show_round(
@@ -92,11 +105,11 @@ fn show_round(
     units: &mut [Grading<Position>; 3],
 ) -> io::Result<()> {
     println!(rt; "round {round}")?;
-    let sent = [units[0].frame(), units[1].frame(), units[2].frame()];
+    let sent = units.each_ref().map(|unit| unit.frame());
     for (receiver, unit) in units.iter_mut().enumerate() {
         let inbox = taken(&sent, round, receiver);
         show_taken(rt, round, receiver, &inbox)?;
-        if round == 3 {
+        if round == ROUNDS {
             show_counts(rt, receiver, &inbox)?;
         }
         unit.step(&inbox);
@@ -105,19 +118,18 @@ fn show_round(
 }
 
 // An honest unit before round 1.
-fn unit(own: usize, value: Position) -> Result<Grading<Position>, CrewFault> {
-    let crew = Crew::new(4, 1, own)?;
-    Ok(Grading::start(crew, value, [false; 16]))
+fn unit(own: usize, value: usize) -> Result<Grading<Position>, CrewFault> {
+    let crew = Crew::new(UNITS, FAULTY, own)?;
+    Ok(Grading::start(crew, Position::nearest(value), [false; 16]))
 }
 
-// Units 0 to 2, with the values 5, 9 and 5.
-fn honest_units(five: Position, nine: Position) -> Result<[Grading<Position>; 3], CrewFault> {
-    Ok([unit(0, five)?, unit(1, nine)?, unit(2, five)?])
+fn honest_units() -> Result<[Grading<Position>; 3], CrewFault> {
+    Ok([unit(0, FIVE)?, unit(1, NINE)?, unit(2, FIVE)?])
 }
 
 // Shows three rounds, what each honest unit took in them, and the grades.
 fn show_rounds(rt: &HostRuntime, mut units: [Grading<Position>; 3]) -> io::Result<()> {
-    for round in 1..4usize {
+    for round in 1..=ROUNDS {
         show_round(rt, round, &mut units)?;
     }
     rt.println("grades of units 0 to 3")?;
@@ -129,14 +141,8 @@ fn show_rounds(rt: &HostRuntime, mut units: [Grading<Position>; 3]) -> io::Resul
 
 pub fn show_exchange(rt: &HostRuntime) -> io::Result<()> {
     rt.println("four units, at most one of them faulty; unit 3 tells two stories")?;
-    let Some(five) = Position::new(5) else {
-        return Ok(());
-    };
-    let Some(nine) = Position::new(9) else {
-        return Ok(());
-    };
-    match honest_units(five, nine) {
+    match honest_units() {
         Ok(units) => show_rounds(rt, units),
-        Err(fault) => rt.println(Sentence(fault.diagnostic())),
+        Err(fault) => rt.println(Sentence(fault)),
     }
 }

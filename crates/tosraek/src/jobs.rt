@@ -1,7 +1,7 @@
 // The jobs of the program.
 use crate::failure::Failure;
 use crate::session::Session;
-use crate::{example, exchange, play, show};
+use crate::{example, show};
 use label::Label;
 use plan::Plan;
 use script::Sentence;
@@ -20,7 +20,7 @@ fn show_file(rt: &HostRuntime, file: &[u8]) -> Result<(), Failure> {
     let mut plan = Plan::new(rt.alloc())?;
     match plan.read(file) {
         Ok(()) => show::show_plan(rt, &plan)?,
-        Err(fault) => rt.println(Sentence(fault.diagnostic()))?,
+        Err(fault) => rt.println(Sentence(fault))?,
     }
     Ok(())
 }
@@ -29,18 +29,8 @@ fn show_file(rt: &HostRuntime, file: &[u8]) -> Result<(), Failure> {
 pub fn label(rt: &HostRuntime, text: &str) -> io::Result<()> {
     match Label::typed(text.as_bytes()) {
         Ok(label) => rt.println(label),
-        Err(fault) => rt.println(Sentence(fault.diagnostic())),
+        Err(fault) => rt.println(Sentence(fault)),
     }
-}
-
-// Shows an exchange of four units, one of which tells two stories.
-pub fn grade(rt: &HostRuntime) -> io::Result<()> {
-    exchange::show_exchange(rt)
-}
-
-// Plays a line agreement with units that lie.
-pub fn line(rt: &HostRuntime, text: &str) -> io::Result<()> {
-    play::show_play(rt, text)
 }
 
 // Answers each line of standard input.

@@ -1,28 +1,23 @@
-// A unit that follows one of the two lines.
-use crate::outcome::NoAnswer;
+// A unit of a script that follows one of the two lines.
+use either::{Either, Left, Right, for_both};
 use line::{Line, follow};
 use lines::{Graded, Halving};
 use script::{Agreement, LineKind};
-use wire::{Crew, Frame, Inbox};
+use wire::{Crew, CrewFault, Frame, Inbox};
 
-#[derive(Clone, Copy)]
-enum AnyLine {
-    Halving(Halving),
-    Graded(Graded),
-}
-
+// The units of a script lie in one map, so each holds either of the two kinds of line.
 #[derive(Clone, Copy)]
 pub struct LineUnit {
     crew: Crew,
-    line: AnyLine,
+    line: Either<Halving, Graded>,
 }
 
 impl LineUnit {
-    pub fn start(agreement: Agreement, own: usize, position: usize) -> Result<LineUnit, NoAnswer> {
+    pub fn start(agreement: Agreement, own: usize, position: usize) -> Result<LineUnit, CrewFault> {
         let crew = Crew::new(agreement.units, agreement.faulty, own)?;
         let line = match agreement.kind {
-            LineKind::Halving => AnyLine::Halving(Halving::start(crew, agreement.span, position)),
-            LineKind::Graded => AnyLine::Graded(Graded::start(crew, agreement.span, position)),
+            LineKind::Halving => Left(Halving::start(crew, agreement.span, position)),
+            LineKind::Graded => Right(Graded::start(crew, agreement.span, position)),
         };
         Ok(LineUnit { crew, line })
     }
@@ -32,42 +27,20 @@ impl LineUnit {
     }
 
     pub fn rounds(&self) -> usize {
-        match self.line {
-            AnyLine::Halving(line) => line.rounds(),
-            AnyLine::Graded(line) => line.rounds(),
-        }
+        for_both!(&self.line, line => line.rounds())
     }
 
     pub fn frame(&self) -> Frame {
-        match self.line {
-            AnyLine::Halving(line) => line.frame(),
-            AnyLine::Graded(line) => line.frame(),
-        }
+        for_both!(&self.line, line => line.frame())
     }
 
-    // The unit after a round, with what came from the others.
-    pub fn after(&self, inbox: &Inbox) -> LineUnit {
+    // Ends a round with what came from the others.
+    pub fn step(&mut self, inbox: &Inbox) {
         let own = self.crew.own();
-        let line = match self.line {
-            AnyLine::Halving(mut line) => {
-                follow(&mut line, own, inbox);
-                AnyLine::Halving(line)
-            }
-            AnyLine::Graded(mut line) => {
-                follow(&mut line, own, inbox);
-                AnyLine::Graded(line)
-            }
-        };
-        LineUnit {
-            crew: self.crew,
-            line,
-        }
+        for_both!(&mut self.line, line => follow(line, own, inbox))
     }
 
     pub fn result(&self) -> usize {
-        match self.line {
-            AnyLine::Halving(line) => line.result(),
-            AnyLine::Graded(line) => line.result(),
-        }
+        for_both!(&self.line, line => line.result())
     }
 }

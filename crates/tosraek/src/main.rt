@@ -6,6 +6,7 @@ mod example;
 mod exchange;
 mod failure;
 mod grades;
+mod inbox;
 mod jobs;
 mod line_unit;
 mod outcome;
@@ -23,8 +24,8 @@ fn run(rt: &HostRuntime) -> Result<(), Failure> {
     match chosen_job(rt)? {
         Job::Plan(path) => jobs::plan(rt, path),
         Job::Label(text) => Ok(jobs::label(rt, text.as_str())?),
-        Job::Grade => Ok(jobs::grade(rt)?),
-        Job::Line(text) => Ok(jobs::line(rt, text.as_str())?),
+        Job::Grade => Ok(exchange::show_exchange(rt)?),
+        Job::Line(text) => Ok(play::show_play(rt, text.as_str())?),
         Job::Script => Ok(jobs::script(rt)?),
         Job::Demo => jobs::demo(rt),
         Job::Usage => Ok(rt.println(args::USAGE)?),

@@ -1,17 +1,19 @@
 // Why a command has no plain answer, as the script shows it.
-use label::{Diagnostic, TextFault};
+use label::{Fault, TextFault};
 use records::PlanFault;
-use script::{HexFault, LayerName, LineFault};
+use script::{HexFault, LineFault};
 use std::alloc::{AllocError, AllocFailed};
 use std::fmt;
 use wire::CrewFault;
 
-// The library refuses the call or the file; the line is no command; its bytes are no hex; there is no plan or
-// line of its name; or there is no memory.
+// A text is no label, or its label is no station of the plan; the library refuses the file or the crew; the line is no
+// command; its bytes are no hex; there is no plan or line of its name; or there is no memory.
 #[derive(Clone, Copy)]
 pub enum NoAnswer {
-    Refusal(u8),
-    Fault(Diagnostic),
+    Label(TextFault),
+    NoStation,
+    Plan(PlanFault),
+    Crew(CrewFault),
     Line(LineFault),
     Hex(HexFault),
     UnknownPlan,
@@ -19,24 +21,21 @@ pub enum NoAnswer {
     Memory,
 }
 
-// A station that a plan lacks.
-pub const NO_STATION: NoAnswer = NoAnswer::Refusal(13);
-
 impl From<TextFault> for NoAnswer {
     fn from(fault: TextFault) -> NoAnswer {
-        NoAnswer::Refusal(fault.diagnostic().number)
+        NoAnswer::Label(fault)
     }
 }
 
 impl From<PlanFault> for NoAnswer {
     fn from(fault: PlanFault) -> NoAnswer {
-        NoAnswer::Fault(fault.diagnostic())
+        NoAnswer::Plan(fault)
     }
 }
 
 impl From<CrewFault> for NoAnswer {
     fn from(fault: CrewFault) -> NoAnswer {
-        NoAnswer::Fault(fault.diagnostic())
+        NoAnswer::Crew(fault)
     }
 }
 
@@ -70,8 +69,10 @@ impl<T: Drop> From<AllocFailed<T>> for NoAnswer {
 impl fmt::Display for NoAnswer {
     fn fmt<W: fmt::Write>(&self, f: &mut fmt::Formatter<W>) -> fmt::Result {
         match self {
-            NoAnswer::Refusal(number) => write!(f, "refusal {number}"),
-            NoAnswer::Fault(fault) => write_fault(f, *fault),
+            NoAnswer::Label(fault) => write!(f, "refusal {}", fault.diagnostic().number),
+            NoAnswer::NoStation => f.write_str("refusal 13"),
+            NoAnswer::Plan(fault) => write!(f, "{}", fault.diagnostic()),
+            NoAnswer::Crew(fault) => write!(f, "{}", fault.diagnostic()),
             NoAnswer::Line(fault) => write!(f, "error: {fault}"),
             NoAnswer::Hex(fault) => write!(f, "error: {fault}"),
             NoAnswer::UnknownPlan => f.write_str("error: there is no plan of this name"),
@@ -79,11 +80,4 @@ impl fmt::Display for NoAnswer {
             NoAnswer::Memory => f.write_str("error: there is no memory"),
         }
     }
-}
-
-fn write_fault<W: fmt::Write>(f: &mut fmt::Formatter<W>, fault: Diagnostic) -> fmt::Result {
-    let number = fault.number;
-    let layer = LayerName(fault.layer);
-    let byte = fault.byte;
-    write!(f, "fault {number} {layer} {byte}")
 }

@@ -1,11 +1,13 @@
 // The plans and lines that a script has made, and the answer to each of its lines.
-use crate::grades::{grades_text, read_inbox};
+use crate::grades::grades_text;
+use crate::inbox::read_inbox;
 use crate::line_unit::LineUnit;
-use crate::outcome::{NO_STATION, NoAnswer};
+use crate::outcome::NoAnswer;
+use itertools::Itertools;
 use label::Label;
 use plan::Plan;
 use script::{Agreement, Command, Hex, ValueKind, parse, read_hex};
-use slot::{Kind, Position};
+use slot::Position;
 use std::alloc::{AllocError, Global};
 use std::collections::BTreeMap;
 use wire::Crew;
@@ -15,19 +17,6 @@ pub struct Session {
     heap: Global,
     plans: BTreeMap<String, Plan>,
     lines: BTreeMap<String, LineUnit>,
-}
-
-// Labels parted by blanks.
-fn labels_text(heap: Global, labels: &[Label], count: usize) -> Result<String, AllocError> {
-    let mut text = String::new(heap);
-    for (i, label) in labels.iter().take(count).enumerate() {
-        let word = label.to_string(heap)?;
-        if i > 0 {
-            text.push(' ')?;
-        }
-        text.push_str(word.as_str())?;
-    }
-    Ok(text)
 }
 
 fn typed(text: &str) -> Result<Label, NoAnswer> {
@@ -53,8 +42,7 @@ impl Session {
     }
 
     fn answer_line(&mut self, line: &str) -> Result<String, NoAnswer> {
-        let command = parse(line)?;
-        self.run(command)
+        self.run(parse(line)?)
     }
 
     fn run(&mut self, command: Command<'_>) -> Result<String, NoAnswer> {
@@ -98,17 +86,13 @@ impl Session {
         let heap = self.heap;
         let key = String::from_str(heap, name)?;
         let made = Plan::new(heap)?;
-        match self.plans.insert(key, made) {
-            Ok(_) => Ok(String::from_str(heap, "ok")?),
-            Err(_) => Err(NoAnswer::Memory),
-        }
+        self.plans.insert(key, made)?;
+        Ok(String::from_str(heap, "ok")?)
     }
 
     fn read(&mut self, name: &str, file: &str) -> Result<String, NoAnswer> {
         let heap = self.heap;
-        let Some(plan) = self.plans.get_mut(name) else {
-            return Err(NoAnswer::UnknownPlan);
-        };
+        let plan = self.plans.get_mut(name).ok_or(NoAnswer::UnknownPlan)?;
         let bytes = read_hex(heap, file.as_bytes())?;
         plan.read(bytes.as_slice())?;
         let count = plan.stations().len();
@@ -121,12 +105,12 @@ impl Session {
         let plan = self.plan(name)?;
         let mut walk = [plan.root(); 2047];
         let count = plan.walk(&mut walk);
-        Ok(labels_text(self.heap, &walk, count)?)
+        Ok(walk.iter().take(count).join(self.heap, " ")?)
     }
 
     fn depth(&self, name: &str, text: &str) -> Result<String, NoAnswer> {
         let plan = self.plan(name)?;
-        let depth = plan.depth(typed(text)?).ok_or(NO_STATION)?;
+        let depth = plan.depth(typed(text)?).ok_or(NoAnswer::NoStation)?;
         Ok(depth.to_string(self.heap)?)
     }
 
@@ -135,15 +119,15 @@ impl Session {
         let mut way = [plan.root(); 1024];
         let count = plan
             .way(typed(from)?, typed(to)?, &mut way)
-            .ok_or(NO_STATION)?;
-        Ok(labels_text(self.heap, &way, count)?)
+            .ok_or(NoAnswer::NoStation)?;
+        Ok(way.iter().take(count).join(self.heap, " ")?)
     }
 
     fn meet(&self, name: &str, one: &str, other: &str) -> Result<String, NoAnswer> {
         let plan = self.plan(name)?;
         let meeting = plan
             .deepest_above(typed(one)?, typed(other)?)
-            .ok_or(NO_STATION)?;
+            .ok_or(NoAnswer::NoStation)?;
         Ok(meeting.to_string(self.heap)?)
     }
 
@@ -162,16 +146,8 @@ impl Session {
         }
     }
 
-    fn line(&self, name: &str) -> Result<LineUnit, NoAnswer> {
-        self.lines.get(name).copied().ok_or(NoAnswer::UnknownUnit)
-    }
-
-    fn keep_line(&mut self, name: &str, unit: LineUnit) -> Result<(), NoAnswer> {
-        let key = String::from_str(self.heap, name)?;
-        match self.lines.insert(key, unit) {
-            Ok(_) => Ok(()),
-            Err(_) => Err(NoAnswer::Memory),
-        }
+    fn line(&self, name: &str) -> Result<&LineUnit, NoAnswer> {
+        self.lines.get(name).ok_or(NoAnswer::UnknownUnit)
     }
 
     fn new_line(
@@ -182,7 +158,8 @@ impl Session {
         position: usize,
     ) -> Result<String, NoAnswer> {
         let unit = LineUnit::start(agreement, own, position)?;
-        self.keep_line(name, unit)?;
+        let key = String::from_str(self.heap, name)?;
+        self.lines.insert(key, unit)?;
         Ok(unit.rounds().to_string(self.heap)?)
     }
 
@@ -192,10 +169,11 @@ impl Session {
     }
 
     fn line_step(&mut self, name: &str, frames: &str) -> Result<String, NoAnswer> {
-        let unit = self.line(name)?;
-        let inbox = read_inbox(self.heap, unit.units(), frames)?;
-        self.keep_line(name, unit.after(&inbox))?;
-        Ok(String::from_str(self.heap, "ok")?)
+        let heap = self.heap;
+        let unit = self.lines.get_mut(name).ok_or(NoAnswer::UnknownUnit)?;
+        let inbox = read_inbox(heap, unit.units(), frames)?;
+        unit.step(&inbox);
+        Ok(String::from_str(heap, "ok")?)
     }
 
     fn line_result(&self, name: &str) -> Result<String, NoAnswer> {

@@ -1,23 +1,10 @@
 // A plan as a person reads it.
 use label::Label;
 use plan::Plan;
-use std::{fmt, io};
+use std::io;
 use tree::Station;
 
 const COLUMNS: usize = 72;
-
-// The blanks in front of a station of this depth: two a level.
-#[derive(Clone, Copy)]
-struct Indent(usize);
-
-impl fmt::Display for Indent {
-    fn fmt<W: fmt::Write>(&self, f: &mut fmt::Formatter<W>) -> fmt::Result {
-        for _ in 0..self.0 {
-            f.write_str("  ")?;
-        }
-        Ok(())
-    }
-}
 
 pub fn show_plan(rt: &HostRuntime, plan: &Plan) -> io::Result<()> {
     let stations = plan.stations();
@@ -54,8 +41,8 @@ fn show_tree(rt: &HostRuntime, plan: &Plan) -> io::Result<()> {
     for label in walk.iter().take(count) {
         let depth = plan.depth(*label).unwrap_or(0);
         if depth > before {
-            let indent = Indent(depth);
-            println!(rt; "{indent}{label}")?;
+            let indent = depth.saturating_mul(2);
+            println!(rt; "{:indent$}{label}", "")?;
         }
         before = depth;
     }

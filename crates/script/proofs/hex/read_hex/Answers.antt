@@ -1,14 +1,7 @@
-use Rattle.std.proofs.Common.{◌≡◌, ◌%◌, length, ◌∷◌, [], sym, ◌∙◌, inl, inr, arith, rules}
+use Rattle.std.proofs.Common.{◌∙◌, arith, rules}
 use Rattle.std.specs.Slice.Iter.{chunks_exact_rest}
-use Rattle.std.proofs.lemmas.Slice.Eq.{slice_eq-Decides}
-use Rattle.std.proofs.lemmas.Bool.Decides.{not_from_Decides, Decides-eqb}
-use Rattle.script.proofs.Digits.{turn, odd_none, stray_none, whole}
+use Rattle.script.proofs.Digits.{turn, stray_none}
 use Rattle.script.proofs.hex.read_hex.Goals as goal
-
-pub returns-then-text-ne0-clause-refuses : goal.returns-then-text-ne0-clause-refuses
-returns-then-text-ne0-clause-refuses c =
-    let other : c.args.text.now ≡ 45 ∷ [] → ⊥ = λ (e : c.args.text.now ≡ 45 ∷ []). not_from_Decides _ (slice_eq-Decides Decides-eqb _ _ _ c.eq.ensures) c.if-eq.false (e ∙ sym c.as_slice.ensures) in
-    inr (odd_none c.args.text.now (λ (even : length c.args.text.now % 2 ≡ 0). omega arith) other)
 
 pub returns-in_err-pair-clause-refuses : goal.returns-in_err-pair-clause-refuses
 returns-in_err-pair-clause-refuses c =
@@ -21,12 +14,8 @@ pub loop-digits-preserved : goal.loop-digits-preserved
 loop-digits-preserved c =
     let step = c.in-Some.ensures.steps in
     let inv = c.loop-digits.invariant in
-    let read = c.in_ok-pair.ensures.reads in
-    (turn c.args.text.now c.loop-digits.bytes.items c.push.new.self.items (chunks_exact_rest c.loop-digits.digits-iterator) c.in-Some.digits.now (chunks_exact_rest c.next.new.self) c.in_ok-pair.field-0
-        inv.0 step.1.0 (step.1.1 ∙ inv.1) read.0 read.1 c.in_ok-push.ensures.items,
-     step.0 ∙ inv.1)
-
-pub returns-clause-reads : goal.returns-clause-reads
-returns-clause-reads c =
-    let inv = c.loop-digits.invariant in
-    inl (whole _ _ _ inv.0 (omega arith) (omega (arith, c.in-None.ensures.steps.1.0, inv.1)))
+    let read = c.in_ok-pair.ensures.reads in (
+      turn c.args.text.now c.loop-digits.bytes.items c.push.new.self.items (chunks_exact_rest c.loop-digits.digits-iterator) c.in-Some.digits.now (chunks_exact_rest c.next.new.self) c.in_ok-pair.field-0
+          inv.0 step.1.0 (step.1.1 ∙ inv.1) read.0 read.1 c.in_ok-push.ensures.items,
+      step.0 ∙ inv.1,
+    )
