@@ -16,7 +16,7 @@ fn table_of<K: Kind, F: Fn(usize) -> Option<K>>(units: usize, value: F) -> [u8; 
     requires callable { F.IsAlwaysCallable value }
     ensures { (f : ℕ → Option K) → ((s : ℕ) (r : Option K) → F.post value s r → r ≡ f s) → result ≡ tabled K.coding f units }
 {
-    let width = K::slot_width();
+    let width = K::WIDTH;
     let mut table = [0; 128];
     for s in 0..units {
         let start = width * s;
@@ -80,7 +80,7 @@ impl<K: Kind> Grading<K> {
     pub(super) fn table_frame(&self) -> Frame
         ensures { carried result ≡ take (K.coding.wide * self.now.crew.n) self.now.table }
     {
-        Frame::new(&self.table[..K::slot_width() * self.crew.units()])
+        Frame::new(&self.table[..K::WIDTH * self.crew.units()])
     }
 
     // Whom a unit distrusts after a grading.
