@@ -1,4 +1,5 @@
-// Whether a block is good, and how many records it has.
+// Whether a block is good, and how many records it has. A block is a slice of 512 bytes and no array, since it is a part
+// of a file, which its callers cut out by an index.
 ghost use Rattle.std.specs.Prelude.{◌≡◌, ◌==◌, ◌+◌, ◌<◌, ◌≤◌, length};
 ghost use Rattle.std.specs.List.{list_all};
 ghost use Rattle.block.specs.Blocks.{check_of, check_sum, word, blank_from, block_verdict};
