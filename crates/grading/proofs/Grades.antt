@@ -1,5 +1,5 @@
 -- Votes and grades by counts.
-use Rattle.std.proofs.Common.{◌≡◌, ℕ, ◌+◌, ◌-◌, ◌<◌, ◌≤◌, Bool, List, [], ◌∷◌, map, Some, None, Option, sym, refl, ap, ◌∙◌, ⊎_elim, arith}
+use Rattle.std.proofs.Common.{◌≡◌, ℕ, ◌+◌, ◌-◌, ◌<◌, ◌≤◌, Bool, List, [], ◌∷◌, map, Some, None, Option, sym, refl, ap, subst, ◌∙◌, ⊎_elim, arith}
 use Rattle.std.proofs.lemmas.Bool.{cases_lt}
 use Rattle.slot.specs.Codings.{Coding, Lawful}
 use Rattle.wire.specs.Slots.{count, first_with, vote}
@@ -63,6 +63,9 @@ module _ {K : Type 0} (c : Coding K) (l : Lawful c) where
   -- a grade is what the counts say
   pub graded_by : (n t : ℕ) (col : List (Option K)) → t < n → GradedBy c n t col (grade_of c n t col)
   graded_by n t col h = low_by n t col h (vote c (n - t) None col) refl
+
+  pub graded_is : (n t : ℕ) (col : List (Option K)) (g : Grade K) → t < n → g ≡ grade_of c n t col → GradedBy c n t col g
+  graded_is n t col g h e = subst (GradedBy c n t col) (sym e) (graded_by n t col h)
 
   -- where nothing is voted for, the grade is 0
   pub no_votes : (n t : ℕ) (col : List (Option K)) → vote c (n - t) None col ≡ None → vote c (t + 1) None col ≡ None → grade_of c n t col ≡ Zero

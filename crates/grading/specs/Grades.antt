@@ -1,5 +1,6 @@
 -- The grade of one sender, from its slot in the round-3 frames.
-use Rattle.std.specs.Prelude.{◌≡◌, ℕ, ◌+◌, ◌-◌, ◌<◌, ◌≤◌, Bool, true, false, List, Some, None, Option, ◌≢◌}
+use Rattle.std.specs.Prelude.{◌≡◌, ℕ, ◌+◌, ◌-◌, ◌<◌, ◌≤◌, Bool, true, false, List, Some, None, Option, codes, ◌≢◌}
+use Rattle.std.specs.Fmt.{◌++?◌}
 use Rattle.slot.specs.Codings.{Coding}
 use Rattle.wire.specs.Slots.{count, vote}
 use Rattle.grading.specs.declared.grade.Grade.{Grade}
@@ -21,6 +22,12 @@ abbrev pub sure : {K : Type 0} → Grade K → Bool
 sure (Two v) = true
 sure (One v) = false
 sure Zero = false
+
+-- the text of a grade, where that of its value is known: its number and, behind a colon, its value
+abbrev pub shown : {K : Type 0} → (K → Option (List ℕ)) → Grade K → Option (List ℕ)
+shown text (Two v) = Some (codes "2:") ++? text v
+shown text (One v) = Some (codes "1:") ++? text v
+shown text Zero = Some (codes "0")
 
 -- grade 1 with v, unless another value is carried often enough too
 abbrev pub alone : {K : Type 0} → K → Option K → Grade K

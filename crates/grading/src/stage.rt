@@ -1,5 +1,5 @@
 // How far a grading is: the next frame has the own value, what came, or the votes; or all three rounds have ended.
-#[derive(Clone, Copy)]
+#[derive(Clone, Copy, PartialEq, Eq)]
 pub enum Stage {
     Sending,
     Relaying,

@@ -7,7 +7,6 @@ ghost use Rattle.grading.specs.Grades.{GradedBy};
 ghost use Rattle.grading.specs.Gradings.{grade_by, begun, frame_of, after, over, grade_at, distrusted_after, ByRounds};
 
 use super::Grading;
-use super::steps::{grade_by, kept_grade, next_distrusted, next_frame, next_state};
 use crate::grade::Grade;
 use crate::stage::Stage;
 use slot::Kind;
@@ -18,7 +17,18 @@ pub fn grade_sender<K: Kind>(crew: Crew, inbox: &Inbox, s: usize) -> Grade<K>
     ensures value { result ≡ grade_by K.coding crew.n crew.t (box_of inbox.now) s }
     ensures counted { GradedBy K.coding crew.n crew.t (column K.coding crew.n s (box_of inbox.now)) result }
 {
-    grade_by::<K>(crew, inbox, s)
+    let n = crew.units();
+    let t = crew.faulty();
+    if let Some(value) = inbox.vote::<K>(n, s, n - t, None) {
+        return Grade::Two(value);
+    }
+    match inbox.vote::<K>(n, s, t + 1, None) {
+        Some(value) => match inbox.vote::<K>(n, s, t + 1, Some(value)) {
+            Some(_) => Grade::Zero,
+            None => Grade::One(value),
+        },
+        None => Grade::Zero,
+    }
 }
 
 impl<K: Kind> Grading<K> {
@@ -53,10 +63,7 @@ impl<K: Kind> Grading<K> {
     pub fn is_over(&self) -> bool
         ensures { result ≡ over self.now.stage }
     {
-        match self.stage {
-            Stage::Graded => true,
-            _ => false,
-        }
+        matches!(self.stage, Stage::Graded)
     }
 
     // The frame of the next round; of no bytes past the third.
@@ -65,7 +72,11 @@ impl<K: Kind> Grading<K> {
         ensures rounds { ByRounds K.coding }
         ensures broadcast { GradedBroadcast K.coding }
     {
-        next_frame(self)
+        match self.stage {
+            Stage::Sending => Frame::single(self.own),
+            Stage::Relaying | Stage::Voting => self.table_frame(),
+            Stage::Graded => Frame::empty(),
+        }
     }
 
     // Ends a round with the frames that came, the own one among them; past the third nothing changes.
@@ -74,7 +85,7 @@ impl<K: Kind> Grading<K> {
         ensures rounds { ByRounds K.coding }
         ensures broadcast { GradedBroadcast K.coding }
     {
-        *self = next_state(self, inbox);
+        *self = self.next(inbox);
     }
 
     // The grade of sender `s`; grade 0 until the third round has ended, and past the last sender.
@@ -83,13 +94,20 @@ impl<K: Kind> Grading<K> {
         ensures rounds { ByRounds K.coding }
         ensures broadcast { GradedBroadcast K.coding }
     {
-        kept_grade(self, s)
+        if !self.is_over() {
+            return Grade::Zero;
+        }
+        match self.table_frame().slot::<K>(self.crew.units(), s) {
+            Some(value) if self.sure[s] => Grade::Two(value),
+            Some(value) => Grade::One(value),
+            None => Grade::Zero,
+        }
     }
 
     // Another grading with this own value, which distrusts whom this one distrusts and each sender of grade 0 or 1.
     pub fn again(&self, own: K) -> Grading<K>
         ensures { result ≡ begun self.now.crew own (distrusted_after K.coding self.now) }
     {
-        Grading::start(Self::crew(self), own, next_distrusted(self))
+        Grading::start(self.crew, own, self.next_distrusted())
     }
 }

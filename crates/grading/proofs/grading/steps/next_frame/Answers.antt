@@ -1,9 +1,0 @@
-use Rattle.grading.proofs.Broadcasts.{graded_broadcast}
-use Rattle.grading.proofs.Rounds.{by_rounds}
-use Rattle.grading.proofs.grading.steps.next_frame.Goals as goal
-
-pub returns : goal.returns
-returns g c =
-    let k = g.K.Kind.coding in
-    let l = g.met.K.Kind.lawful in
-    record { bytes = c.stage_frame.ensures; rounds = by_rounds k l; broadcast = graded_broadcast k l }
