@@ -1,6 +1,6 @@
 // What is wrong with a plan file.
-ghost use Rattle.std.specs.Prelude.{◌≡◌};
-ghost use Rattle.records.specs.Faults.{plan_told};
+ghost use Rattle.std.specs.Prelude.{◌≡◌, Some};
+ghost use Rattle.records.specs.Faults.{plan_told, plan_sentence};
 ghost use Rattle.records.specs.declared.fault.PlanFault.TheVariants.{Block};
 
 use block::BlockFault;
@@ -30,6 +30,8 @@ impl From<BlockFault> for PlanFault {
 }
 
 impl fmt::Display for PlanFault {
+    ghost output = { λ e. Some (plan_sentence e) };
+
     fn fmt<W: fmt::Write>(&self, f: &mut fmt::Formatter<W>) -> fmt::Result {
         match self {
             PlanFault::Size => f.write_str(
