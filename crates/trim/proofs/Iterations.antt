@@ -1,5 +1,5 @@
 -- How many rounds and iterations suffice.
-use Rattle.std.proofs.Common.{◌≡◌, ℕ, zero, suc, ◌+◌, ◌-◌, ◌*◌, ◌/◌, ◌^◌, ◌<◌, ◌≤◌, max, Bool, true, false, cond, leb, sym, refl, ap, ◌∙◌, subst, ⊎_elim, add-one, mul-le-mul_right, suc-mul, mul_comm, div-lt_iff_lt-mul, mul-le-mul_left, mul-zero, le-div_iff_mul-le, div-mul-le_self, arith, pow_pos}
+use Rattle.std.proofs.Common.{◌≡◌, ℕ, zero, suc, ◌+◌, ◌-◌, ◌*◌, ◌/◌, ◌^◌, ◌<◌, ◌≤◌, max, Bool, true, false, cond, leb, sym, refl, ap, ◌∙◌, subst, ⊎_elim, add-one, mul-le-mul_right, suc-mul, mul_comm, div-lt_iff_lt-mul, mul-le-mul_left, mul-zero, le-div_iff_mul-le, div-mul-le_self, arith, below_more, pow_pos}
 use Rattle.std.specs.Int.{IsPowerOfTwo, div_ceil}
 use Rattle.std.proofs.Math.Pow.{pow-lt, pow_mono}
 use Rattle.std.proofs.lemmas.Grind.{div_ceil_times}
@@ -183,6 +183,16 @@ module _ (m D f : ℕ) (some : 0 < m) where
   pub few_before : (r : ℕ) → ((j : ℕ) → j < r → 1 < worst m D j f) → r ≤ f + 1
   few_before r before =
       ⊎_elim (λ lt. absurd (omega (arith, before (f + 1) lt, enough_iterations))) (λ le. le) (cases_lt (f + 1) r)
+
+pub least_is : (m D f r : ℕ) → 0 < m → worst m D r f ≤ 1 → ((j : ℕ) → j < r → 1 < worst m D j f) → r ≡ iterations m D f
+least_is m D f r some enough before =
+    least_same (λ j. worst m D j f ≤ 1) r (iterations m D f) (record { holds = enough; none_below = λ j h q. omega (arith, before j h) }) (iterations-least m D f some)
+
+pub least_most : (m D f r w : ℕ) → w ≡ worst m D r f → 0 < m → ((j : ℕ) → j < r → 1 < worst m D j f) → r ≤ f + 1
+least_most m D f r w e some before = few_before m D f some r before
+
+pub least_more : (m D f r w : ℕ) → w ≡ worst m D r f → 1 < w → ((j : ℕ) → j < r → 1 < worst m D j f) → (j : ℕ) → j < r + 1 → 1 < worst m D j f
+least_more m D f r w e more before = below_more (λ j. 1 < worst m D j f) r before (omega (arith, e))
 
 pub worsts : Worsts
 worsts = record {

@@ -63,6 +63,7 @@ impl Spread {
     }
 
     // The least number of iterations that leave at most 1, where fewer than `r` leave more.
+    #[tactic(auto, using(crate::proofs::Iterations::least_is, crate::proofs::Iterations::least_most))]
     fn least_from(self, r: usize) -> usize
         requires { (j : ℕ) → j < r → 1 < worst self.m self.spread j self.f }
         ensures is { result ≡ iterations self.m self.spread self.f }
