@@ -1,14 +1,13 @@
 -- What holds of the records of a good file.
-use Rattle.std.proofs.Common.{◌≡◌, ℕ, ◌+◌, ◌<◌, ◌⊎◌, List, length, get_or, Some, Ok, Err, Result, sym, ap, ◌∙◌, inl, inr, ⊎_elim, arith}
+use Rattle.std.proofs.Common.{◌≡◌, ℕ, ◌+◌, ◌<◌, ◌⊎◌, List, length, get_or, Ok, Err, Result, sym, ap, ◌∙◌, inl, inr, ⊎_elim, arith}
 use Rattle.std.specs.Prelude.{IfOk}
-use Rattle.label.specs.Labels.{bytes_of, label_of}
+use Rattle.label.specs.Labels.{bytes_of}
 use Rattle.label.specs.declared.label.Label.{Label}
-use Rattle.label.proofs.Reading.{read_written, same_label_lem}
+use Rattle.label.proofs.Reading.{same_label_lem}
 use Rattle.tree.specs.Records.{Records, label_at}
 use Rattle.records.specs.Accepts.{Stands, Written, Accepted, Sound, FileHolds, FileJoins}
 use Rattle.records.specs.Files.{read_file}
 use Rattle.records.specs.declared.fault.PlanFault.{PlanFault}
-use Rattle.records.specs.Halves.{eight_at}
 use Rattle.records.proofs.Accepting.{read_good}
 
 pub accepted_sound : (file : List ℕ) (rs : Records) → Accepted file rs → Sound rs
@@ -37,10 +36,6 @@ if_sound file (Err f) e = tt
 -- one label stands at a byte
 pub stands_one : (file : List ℕ) (p : ℕ) (a b : Label) → Stands file p a → Stands file p b → a ≡ b
 stands_one file p a b e f = same_label_lem a b (sym e ∙ f)
-
--- a label stands where it is read
-pub stands_read : (file : List ℕ) (p : ℕ) (a : Label) → Stands file p a → label_of (eight_at file p) ≡ Some a
-stands_read file p a e = ap label_of e ∙ read_written a
 
 stands_as : (file : List ℕ) (p : ℕ) (a b : Label) → Stands file p a → a ≡ b → Stands file p b
 stands_as file p a b e f = e ∙ ap bytes_of f

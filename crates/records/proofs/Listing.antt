@@ -61,9 +61,6 @@ module _ (rows : List Record) (n : ℕ) (r : Record) (rs : Records) (size : leng
       ∙ (λ i. record { labels = labels_push (take n rows) r i; joins = joins_push (take n rows) r i })
       ∙ ap (λ (x : Records). record { labels = x.labels ++ r.label ∷ []; joins = x.joins ++ join_of r.joined ∷ [] }) is
 
-pub lawful_none : Lawful []
-lawful_none = record { few = omega arith; different = λ a b h m e. omega arith; joined = λ k h. absurd (omega arith) }
-
 -- a record is joined to an earlier one, where 0 stands for none
 pub joined_earlier : (rs : List Record) → Lawful rs → Earlier (joins_of rs)
 joined_earlier rs w k some l =

@@ -42,9 +42,6 @@ module _ (file : List ℕ) (start count r : ℕ) (within : start + 16 * count �
   run_long : r ≤ count → length (run_left file start count r) ≡ 16 * (count - r)
   run_long l = length-take-le (16 * (count - r)) (drop (start + 16 * r) file) (omega (arith, length-drop (start + 16 * r) file))
 
-  pub run_ends : r ≤ count → length (run_left file start count r) < 16 → r ≡ count
-  run_ends l h = omega (arith, run_long l)
-
   module _ (x t : List ℕ) (few : r ≤ count) (e : run_left file start count r ≡ x ++ t) (size : length x ≡ 16) where
     pub run_more : r < count
     run_more = omega (arith, run_long few, ap length e, length-append x t)
@@ -155,9 +152,6 @@ starts_long file n b l = omega (arith, ap length (starts_first file n b l), leng
 module _ (file : List ℕ) (n b : ℕ) (whole : length file ≡ 512 * n) where
   left_long : b ≤ n → length (blocks_left file b) ≡ 512 * (n - b)
   left_long l = omega (arith, length-drop (512 * b) file)
-
-  pub blocks_end : b ≤ n → length (blocks_left file b) < 512 → b ≡ n
-  blocks_end l h = omega (arith, left_long l)
 
   module _ (x t : List ℕ) (few : b ≤ n) (e : blocks_left file b ≡ x ++ t) (size : length x ≡ 512) where
     pub blocks_more : b < n
