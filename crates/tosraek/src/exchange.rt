@@ -1,6 +1,5 @@
 // One whole exchange of grading: four units, at most one of them faulty. Units 0 to 2 are honest, and unit 3 tells two
 // stories.
-use crate::grades::Shown;
 use crate::inbox::inbox_of;
 use grading::Grading;
 use itertools::Itertools;
@@ -94,7 +93,7 @@ fn show_counts(rt: &HostRuntime, receiver: usize, inbox: &Inbox) -> io::Result<(
 
 fn show_grades(rt: &HostRuntime, receiver: usize, unit: &Grading<Position>) -> io::Result<()> {
     let grades = (0..UNITS)
-        .map(|sender| Shown(unit.grade(sender)))
+        .map(|sender| unit.grade(sender))
         .join(rt.alloc(), " ")?;
     println!(rt; "  at unit {receiver}: {grades}")
 }

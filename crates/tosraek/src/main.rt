@@ -5,7 +5,6 @@ mod args;
 mod example;
 mod exchange;
 mod failure;
-mod grades;
 mod inbox;
 mod jobs;
 mod line_unit;

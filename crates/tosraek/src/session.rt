@@ -1,22 +1,34 @@
 // The plans and lines that a script has made, and the answer to each of its lines.
-use crate::grades::grades_text;
 use crate::inbox::read_inbox;
 use crate::line_unit::LineUnit;
 use crate::outcome::NoAnswer;
+use grading::grade_sender;
 use itertools::Itertools;
 use label::Label;
 use plan::Plan;
 use script::{Agreement, Command, Hex, ValueKind, parse, read_hex};
-use slot::Position;
+use slot::{Kind, Position};
 use std::alloc::{AllocError, Global};
 use std::collections::BTreeMap;
-use wire::Crew;
+use std::fmt;
+use wire::{Crew, Inbox};
 
 #[derive(Drop)]
 pub struct Session {
     heap: Global,
     plans: BTreeMap<String, Plan>,
     lines: BTreeMap<String, LineUnit>,
+}
+
+// The grades of all senders by the round-3 frames, parted by blanks.
+fn grades_text<K: Kind + fmt::Display>(
+    heap: Global,
+    crew: Crew,
+    inbox: &Inbox,
+) -> Result<String, AllocError> {
+    (0..crew.units())
+        .map(|sender| grade_sender::<K>(crew, inbox, sender))
+        .join(heap, " ")
 }
 
 fn typed(text: &str) -> Result<Label, NoAnswer> {
