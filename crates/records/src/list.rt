@@ -43,13 +43,13 @@ impl Records {
     }
 
     // Appends a record with a new label that is joined to an earlier one, or to none where it is the first.
-    pub(crate) fn push(&mut self, record: Record)
+    pub(crate) fn push(&mut self, row: Record)
         requires room { length self.old.labels < 1024 }
-        requires fresh { seek record.label self.old.labels ≡ None }
-        requires joined { JoinedBefore (length self.old.labels) record.joined }
-        ensures { self.new ≡ record { labels = self.old.labels ++ record.label ∷ []; joins = self.old.joins ++ join_of record.joined ∷ [] } }
+        requires fresh { seek row.label self.old.labels ≡ None }
+        requires joined { JoinedBefore (length self.old.labels) row.joined }
+        ensures { self.new ≡ record { labels = self.old.labels ++ row.label ∷ []; joins = self.old.joins ++ join_of row.joined ∷ [] } }
     {
-        self.rows[self.len] = record;
+        self.rows[self.len] = row;
         self.len += 1;
     }
 
