@@ -2,6 +2,7 @@
 use crate::inbox::read_inbox;
 use crate::line_unit::LineUnit;
 use crate::outcome::NoAnswer;
+use crate::show::walk_of;
 use grading::grade_sender;
 use itertools::Itertools;
 use label::Label;
@@ -114,10 +115,8 @@ impl Session {
     }
 
     fn walk(&self, name: &str) -> Result<String, NoAnswer> {
-        let plan = self.plan(name)?;
-        let mut walk = [plan.root(); 2047];
-        let count = plan.walk(&mut walk);
-        Ok(walk.iter().take(count).join(self.heap, " ")?)
+        let walk = walk_of(self.heap, self.plan(name)?)?;
+        Ok(walk.iter().join(self.heap, " ")?)
     }
 
     fn depth(&self, name: &str, text: &str) -> Result<String, NoAnswer> {

@@ -1,10 +1,18 @@
 // A plan as a person reads it.
 use label::Label;
 use plan::Plan;
+use std::alloc::{AllocError, Global};
 use std::io;
 use tree::Station;
 
 const COLUMNS: usize = 72;
+
+// The walk of a plan.
+pub fn walk_of(heap: Global, plan: &Plan) -> Result<Vec<Label>, AllocError> {
+    let mut walk = [plan.root(); 2047];
+    let count = plan.walk(&mut walk);
+    walk.iter().copied().take(count).collect(heap)
+}
 
 pub fn show_plan(rt: &HostRuntime, plan: &Plan) -> io::Result<()> {
     let stations = plan.stations();
@@ -14,8 +22,9 @@ pub fn show_plan(rt: &HostRuntime, plan: &Plan) -> io::Result<()> {
     let root = plan.root();
     let height = plan.height();
     println!(rt; "root: {root}\nheight: {height}")?;
-    show_tree(rt, plan)?;
-    show_walk(rt, plan)
+    let walk = walk_of(rt.alloc(), plan)?;
+    show_tree(rt, plan, walk.as_slice())?;
+    show_walk(rt, walk.as_slice())
 }
 
 // A line for each leg, the station nearer to the root first.
@@ -33,12 +42,10 @@ fn show_legs(rt: &HostRuntime, stations: &[Station]) -> io::Result<()> {
 
 // A line for each station, behind its parent and deeper by a level. The walk comes to a station for the first time
 // where it goes down.
-fn show_tree(rt: &HostRuntime, plan: &Plan) -> io::Result<()> {
+fn show_tree(rt: &HostRuntime, plan: &Plan, walk: &[Label]) -> io::Result<()> {
     rt.println("tree:")?;
-    let mut walk = [plan.root(); 2047];
-    let count = plan.walk(&mut walk);
     let mut before = 0;
-    for label in walk.iter().take(count) {
+    for label in walk {
         let depth = plan.depth(*label).unwrap_or(0);
         if depth > before {
             let indent = depth.saturating_mul(2);
@@ -49,13 +56,11 @@ fn show_tree(rt: &HostRuntime, plan: &Plan) -> io::Result<()> {
     Ok(())
 }
 
-fn show_walk(rt: &HostRuntime, plan: &Plan) -> io::Result<()> {
+fn show_walk(rt: &HostRuntime, walk: &[Label]) -> io::Result<()> {
     rt.println("walk:")?;
     let heap = rt.alloc();
-    let mut walk = [plan.root(); 2047];
-    let count = plan.walk(&mut walk);
     let mut line = String::new(heap);
-    for label in walk.iter().take(count) {
+    for label in walk {
         let word = format!(in heap; " {label}")?;
         if line.len().saturating_add(word.len()) > COLUMNS {
             println!(rt; " {line}")?;
