@@ -9,7 +9,8 @@ mod steps;
 pub use ops::grade_sender;
 
 // The slots of the next frame stand in the table as bytes, one behind the other, and zeros behind them; once all three
-// rounds have ended, the values of grades 1 and 2 stand there, and `sure` says which have grade 2.
+// rounds have ended, the values of grades 1 and 2 stand there, and `sure` says which have grade 2. There is no heap, and one
+// plain table of bytes serves every kind of value, so that the grades are no array of values.
 #[derive(Clone, Copy)]
 pub struct Grading<K> {
     crew: Crew,

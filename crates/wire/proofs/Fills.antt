@@ -19,10 +19,6 @@ module _ {X : Type 0} (f : ℕ → X) (d : X) (xs : List X) (s : ℕ) (inv : Fil
     λ k l. ap (λ y. get_or (set xs s y) k d) e ∙ fill_by_more f xs s d (omega (arith, inv.0)) inv.1 k l,
   )
 
-  -- all places
-  pub filled_all : 16 ≤ s → xs ≡ map f (range_with_len 0 16)
-  filled_all h = fill_by_all f xs 16 d inv.0 (λ k l. inv.1 k (omega arith))
-
   -- the first n places
   pub filled_front : (n : ℕ) → n ≤ 16 → n ≤ s → take n xs ≡ map f (range_with_len 0 n)
   filled_front n few h =

@@ -1,36 +1,14 @@
 -- Counting and voting.
-use Rattle.std.proofs.Common.{◌≡◌, ℕ, suc, ◌+◌, ◌-◌, ◌<◌, ◌≤◌, Bool, true, false, cond, not, leb, ◌⊎◌, List, [], ◌∷◌, map, length, is_some, Some, None, Decides, count_by, Option, sym, refl, ap, ◌∙◌, inl, inr, ⊎_elim, true≢false, arith}
-use Rattle.std.specs.List.{range_with_len}
+use Rattle.std.proofs.Common.{◌≡◌, ℕ, ◌+◌, ◌≤◌, Bool, true, false, cond, not, leb, ◌⊎◌, List, [], ◌∷◌, length, Some, None, Decides, Option, sym, refl, ap, ◌∙◌, inl, inr, ⊎_elim, true≢false, arith}
 use Rattle.std.specs.Option.{option_eq}
 use Rattle.std.specs.Str.{bytes_eq}
-use Rattle.std.proofs.lemmas.List.FromFn.{sum_by-map-range_with_len_more}
 use Rattle.std.proofs.lemmas.Slice.Eq.{bytes_eq-Decides}
 use Rattle.std.proofs.lemmas.Bool.{cases_Bool, leb-true, le-leb, and_parts, and_from, not-true, not_from_false}
 use Rattle.std.proofs.lemmas.Bool.Decides.{same_from_decides, Decides-like}
 use Rattle.slot.specs.Codings.{Coding, Lawful}
-use Rattle.wire.specs.Slots.{holds, count, kept, or_else, first_with, reaches, vote}
+use Rattle.wire.specs.Slots.{holds, count, or_else, first_with, reaches, vote}
 use Rattle.wire.specs.Votes.{Voted}
 use Rattle.wire.proofs.Counts.{one, count_cons, apart}
-
--- a loop over a row counts one more where the test holds
-pub count_more : {X : Type 0} (p : X → Bool) (f : ℕ → X) (i : ℕ) → count_by p (map f (range_with_len 0 (i + 1))) ≡ count_by p (map f (range_with_len 0 i)) + one (p (f i))
-count_more p f i = sum_by-map-range_with_len_more (λ y. one (p y)) f 0 i i (omega arith)
-
--- a loop over a row that looks for the first value that passes
-module _ {K : Type 0} (P : K → Bool) (f : ℕ → Option K) (n i : ℕ) (within : i < n) where
-  first_step : first_with P (map f (range_with_len i (n - i))) ≡ or_else (kept P (f i)) (first_with P (map f (range_with_len (i + 1) (n - (i + 1)))))
-  first_step = let e : n - i ≡ suc (n - (i + 1)) = omega arith in ap (λ k. first_with P (map f (range_with_len i k))) e
-
-  pub first_on : (r t : Option K) → r ≡ kept P (f i) → is_some r ≡ false → t ≡ first_with P (map f (range_with_len i (n - i))) → t ≡ first_with P (map f (range_with_len (i + 1) (n - (i + 1))))
-  first_on None t q none e = e ∙ first_step ∙ ap (λ o. or_else o (first_with P (map f (range_with_len (i + 1) (n - (i + 1)))))) (sym q)
-  first_on (Some v) t q none e = absurd (true≢false none)
-
-  pub first_found : (r t : Option K) → r ≡ kept P (f i) → is_some r ≡ true → t ≡ first_with P (map f (range_with_len i (n - i))) → r ≡ t
-  first_found None t q some e = absurd (true≢false (sym some))
-  first_found (Some v) t q some e = sym (e ∙ first_step ∙ ap (λ o. or_else o (first_with P (map f (range_with_len (i + 1) (n - (i + 1)))))) (sym q))
-
-pub first_past : {K : Type 0} (P : K → Bool) (f : ℕ → Option K) (n i : ℕ) → n ≤ i → first_with P (map f (range_with_len i (n - i))) ≡ None
-first_past P f n i h = let e : n - i ≡ 0 = omega arith in ap (λ k. first_with P (map f (range_with_len i k))) e
 
 module _ {K : Type 0} (c : Coding K) (l : Lawful c) where
   pub writes_apart : (x y : K) → c.writes x ≡ c.writes y → x ≡ y

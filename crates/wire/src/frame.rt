@@ -5,6 +5,7 @@ mod ops;
 
 pub use ops::write_slot;
 
+// The handhelds have no heap, and frames are copied: the bytes lie in a buffer of fixed size, with their count beside it.
 #[derive(Clone, Copy)]
 pub struct Frame {
     bytes: [u8; 128],

@@ -18,6 +18,7 @@ fn table_of<K: Kind, F: Fn(usize) -> Option<K>>(units: usize, value: F) -> [u8; 
 {
     let width = K::WIDTH;
     let mut table = [0; 128];
+    // While `chunks_exact_mut` lends the table, no invariant of a loop can say what stands in it.
     for s in 0..units {
         let start = width * s;
         write_slot(value(s), &mut table[start..start + width]);

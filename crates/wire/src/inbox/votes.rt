@@ -48,6 +48,7 @@ impl Inbox {
         ensures value { result ≡ vote K.coding quorum except (column K.coding units s (box_of self.now)) }
         ensures counted { Voted K.coding quorum except (column K.coding units s (box_of self.now)) result }
     {
+        // With `filter_map` and `find` the proof does not get from the chain to the first value that passes.
         for frame in &self.frames[..units.min(16)] {
             if let Some(value) = slot_in(frame, units, s) {
                 if !is_value(except, value) && self.tally(units, s, value) >= quorum {
