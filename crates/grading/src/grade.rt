@@ -4,7 +4,8 @@ ghost use Rattle.grading.specs.Grades.{grade_number, grade_value, sure, shown};
 
 use std::fmt;
 
-// Grade 2 or 1 with a value, or grade 0, which has none.
+// Grade 2 or 1 with a value, or grade 0, which has none. Not an `Option` with a flag beside it: grades 2 and 1 say different
+// things of one value.
 #[derive(Clone, Copy, PartialEq, Eq, Debug)]
 pub enum Grade<K> {
     Two(K),

@@ -31,7 +31,7 @@ pub fn show_plan(rt: &HostRuntime, plan: &Plan) -> io::Result<()> {
 fn show_legs(rt: &HostRuntime, stations: &[Station]) -> io::Result<()> {
     rt.println("legs:")?;
     for station in stations.iter().skip(1) {
-        if let Some(parent) = stations.get(station.parent as usize) {
+        if let Some(parent) = stations.get(usize::from(station.parent)) {
             let upper = parent.label;
             let lower = station.label;
             println!(rt; "  {upper}–{lower}")?;

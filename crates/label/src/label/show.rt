@@ -14,7 +14,7 @@ fn put<W: fmt::Write>(f: &mut fmt::Formatter<W>, byte: u8) -> fmt::Result
     if byte == b' ' {
         return Ok(());
     }
-    f.write_char(byte as char)
+    f.write_char(char::from(byte))
 }
 
 impl fmt::Display for Label {
