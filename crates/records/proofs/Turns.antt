@@ -149,42 +149,43 @@ run_fault file n b c l k ls js f e =
 pub starts_long : (file : List ℕ) (n b : ℕ) → b < n → length (starts file b (n - b)) ≡ count_at file b + length (starts file (b + 1) (n - (b + 1)))
 starts_long file n b l = omega (arith, ap length (starts_first file n b l), length-append (places_of (512 * b + 4) (count_at file b)) (starts file (b + 1) (n - (b + 1))), places_long (512 * b + 4) (count_at file b))
 
-module _ (file : List ℕ) (n b : ℕ) (whole : length file ≡ 512 * n) where
-  left_long : b ≤ n → length (blocks_left file b) ≡ 512 * (n - b)
-  left_long l = omega (arith, length-drop (512 * b) file)
+-- x is block b, and t the blocks after it
+pub record NextBlock (file : List ℕ) (n b : ℕ) (x t : List ℕ) : Type 0 where
+  pub more : b < n
+  pub next : t ≡ blocks_left file (b + 1)
+  pub is : x ≡ block_at file b
 
-  module _ (x t : List ℕ) (few : b ≤ n) (e : blocks_left file b ≡ x ++ t) (size : length x ≡ 512) where
-    pub blocks_more : b < n
-    blocks_more = omega (arith, left_long few, ap length e, length-append x t)
+pub next_block : (file : List ℕ) (n b : ℕ) (xs x t : List ℕ) (size : ℕ) → length file ≡ 512 * n → b ≤ n → xs ≡ blocks_left file b → xs ≡ x ++ t → length x ≡ size → size ≡ 512 → NextBlock file n b x t
+next_block file n b xs x t size whole few left cut long is =
+    let e : blocks_left file b ≡ x ++ t = sym left ∙ cut in
+    let a : 512 * b + 512 ≡ 512 * (b + 1) = omega arith in
+    record {
+      more = omega (arith, length-drop (512 * b) file, ap length e, length-append x t);
+      next = after_chunk (blocks_left file b) x t 512 e (long ∙ is) ∙ drop-drop 512 (512 * b) file ∙ ap (λ (k : ℕ). drop k file) a;
+      is = first_chunk (blocks_left file b) x t 512 e (long ∙ is);
+    }
 
-    pub blocks_next : t ≡ blocks_left file (b + 1)
-    blocks_next =
-        let a : 512 * b + 512 ≡ 512 * (b + 1) = omega arith in
-        after_chunk (blocks_left file b) x t 512 e size ∙ drop-drop 512 (512 * b) file ∙ ap (λ (k : ℕ). drop k file) a
+module _ {file : List ℕ} {n b : ℕ} {x t : List ℕ} (k : NextBlock file n b x t) where
+  at_block : (ps : List ℕ) (v : Result ℕ BlockFault) → v ≡ block_verdict x b (eqb (b + 1) n) (512 * b) → placed (512 * b + 4) ps v (blocks_from file n (b + 1) (n - (b + 1))) ≡ blocks_from file n b (n - b) ps
+  at_block ps v q =
+      let s : n - b ≡ suc (n - (b + 1)) = omega (arith, k.more) in
+      ap (λ r. placed (512 * b + 4) ps r (blocks_from file n (b + 1) (n - (b + 1)))) (q ∙ ap (λ (bs : List ℕ). block_verdict bs b (eqb (b + 1) n) (512 * b)) k.is)
+      ∙ sym (ap (λ (m : ℕ). blocks_from file n b m ps) s)
 
-    pub is_block : x ≡ block_at file b
-    is_block = first_chunk (blocks_left file b) x t 512 e size
+  pub block_good : (c : ℕ) → Ok c ≡ block_verdict x b (eqb (b + 1) n) (512 * b) → GoodBlock file n b c
+  block_good c q = verdict_good file n b c (sym (q ∙ ap (λ (bs : List ℕ). block_verdict bs b (eqb (b + 1) n) (512 * b)) k.is))
 
-    at_block : (ps : List ℕ) (v : Result ℕ BlockFault) → v ≡ block_verdict x b (eqb (b + 1) n) (512 * b) → placed (512 * b + 4) ps v (blocks_from file n (b + 1) (n - (b + 1))) ≡ blocks_from file n b (n - b) ps
-    at_block ps v q =
-        let s : n - b ≡ suc (n - (b + 1)) = omega (arith, blocks_more) in
-        ap (λ r. placed (512 * b + 4) ps r (blocks_from file n (b + 1) (n - (b + 1)))) (q ∙ ap (λ (bs : List ℕ). block_verdict bs b (eqb (b + 1) n) (512 * b)) is_block)
-        ∙ sym (ap (λ (m : ℕ). blocks_from file n b m ps) s)
+  pub block_fault : (ps : List ℕ) (f : BlockFault) → Err f ≡ block_verdict x b (eqb (b + 1) n) (512 * b) → Err (Block f) ≡ blocks_from file n b (n - b) ps
+  block_fault ps f q = at_block ps (Err f) q
 
-    pub block_good : (c : ℕ) → Ok c ≡ block_verdict x b (eqb (b + 1) n) (512 * b) → GoodBlock file n b c
-    block_good c q = verdict_good file n b c (sym (q ∙ ap (λ (bs : List ℕ). block_verdict bs b (eqb (b + 1) n) (512 * b)) is_block))
+  pub block_more : (c : ℕ) → Ok c ≡ block_verdict x b (eqb (b + 1) n) (512 * b) → blocks_from file n (b + 1) (n - (b + 1)) (starts file 0 (b + 1)) ≡ blocks_from file n b (n - b) (starts file 0 b)
+  block_more c q =
+      let g = block_good c q in
+      ap (blocks_from file n (b + 1) (n - (b + 1))) (starts_more file b ∙ ap (λ (m : ℕ). starts file 0 b ++ places_of (512 * b + 4) m) g.count)
+      ∙ at_block (starts file 0 b) (Ok c) q
 
-    pub block_fault : (ps : List ℕ) (f : BlockFault) → Err f ≡ block_verdict x b (eqb (b + 1) n) (512 * b) → Err (Block f) ≡ blocks_from file n b (n - b) ps
-    block_fault ps f q = at_block ps (Err f) q
-
-    pub block_more : (c : ℕ) → Ok c ≡ block_verdict x b (eqb (b + 1) n) (512 * b) → blocks_from file n (b + 1) (n - (b + 1)) (starts file 0 (b + 1)) ≡ blocks_from file n b (n - b) (starts file 0 b)
-    block_more c q =
-        let g = block_good c q in
-        ap (blocks_from file n (b + 1) (n - (b + 1))) (starts_more file b ∙ ap (λ (k : ℕ). starts file 0 b ++ places_of (512 * b + 4) k) g.count)
-        ∙ at_block (starts file 0 b) (Ok c) q
-
-    pub block_long : (c : ℕ) → Ok c ≡ block_verdict x b (eqb (b + 1) n) (512 * b) → length (starts file 0 (b + 1)) ≡ length (starts file 0 b) + c
-    block_long c q =
-        let g = block_good c q in
-        let k = g.count in
-        omega (arith, ap length (starts_more file b), length-append (starts file 0 b) (places_of (512 * b + 4) (count_at file b)), places_long (512 * b + 4) (count_at file b))
+  pub block_long : (c : ℕ) → Ok c ≡ block_verdict x b (eqb (b + 1) n) (512 * b) → length (starts file 0 (b + 1)) ≡ length (starts file 0 b) + c
+  block_long c q =
+      let g = block_good c q in
+      let m = g.count in
+      omega (arith, ap length (starts_more file b), length-append (starts file 0 b) (places_of (512 * b + 4) (count_at file b)), places_long (512 * b + 4) (count_at file b))
