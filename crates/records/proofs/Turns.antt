@@ -38,48 +38,49 @@ verdict x start r ls = judged (label_of (eight_at x 0)) (second_of (start + 16 *
 pub verdict_same : (x : List ℕ) (start r k : ℕ) (ls ms : List Label) → r ≡ k → ls ≡ ms → verdict x start r ls ≡ verdict x start k ms
 verdict_same x start r k ls ms e f = ap (λ (i : ℕ). verdict x start i ls) e ∙ ap (verdict x start k) f
 
-module _ (file : List ℕ) (start count r : ℕ) (within : start + 16 * count ≤ length file) where
-  run_long : r ≤ count → length (run_left file start count r) ≡ 16 * (count - r)
-  run_long l = length-take-le (16 * (count - r)) (drop (start + 16 * r) file) (omega (arith, length-drop (start + 16 * r) file))
+-- x is record r, and t those after it
+pub record NextRecord (file : List ℕ) (start count r : ℕ) (x t : List ℕ) : Type 0 where
+  pub more : r < count
+  pub next : t ≡ run_left file start count (r + 1)
+  pub first : eight_at x 0 ≡ eight_at file (start + 16 * r)
+  pub second : eight_at x 8 ≡ eight_at file (start + 16 * r + 8)
 
-  module _ (x t : List ℕ) (few : r ≤ count) (e : run_left file start count r ≡ x ++ t) (size : length x ≡ 16) where
-    pub run_more : r < count
-    run_more = omega (arith, run_long few, ap length e, length-append x t)
+pub next_record : (file : List ℕ) (start count r : ℕ) (xs x t : List ℕ) (size : ℕ) → start + 16 * count ≤ length file → r ≤ count → xs ≡ run_left file start count r → xs ≡ x ++ t → length x ≡ size → size ≡ 16 → NextRecord file start count r x t
+next_record file start count r xs x t size within few left cut long is =
+    let e : run_left file start count r ≡ x ++ t = sym left ∙ cut in
+    let more : r < count = omega (arith, length-take-le (16 * (count - r)) (drop (start + 16 * r) file) (omega (arith, length-drop (start + 16 * r) file)), ap length e, length-append x t) in
+    let a : 16 * (count - r) ≡ 16 + 16 * (count - (r + 1)) = omega arith in
+    let b : start + 16 * r + 16 ≡ start + 16 * (r + 1) = omega arith in
+    let chunk : x ≡ take 16 (drop (start + 16 * r) file) = first_chunk (run_left file start count r) x t 16 e (long ∙ is) ∙ take-take 16 (16 * (count - r)) (drop (start + 16 * r) file) (omega arith) in
+    record {
+      more = more;
+      next = after_chunk (run_left file start count r) x t 16 e (long ∙ is)
+          ∙ ap (λ (n : ℕ). drop 16 (take n (drop (start + 16 * r) file))) a
+          ∙ drop-take 16 (16 * (count - (r + 1))) (drop (start + 16 * r) file)
+          ∙ ap (take (16 * (count - (r + 1)))) (drop-drop 16 (start + 16 * r) file ∙ ap (λ (n : ℕ). drop n file) b);
+      first = ap (take 8) chunk ∙ take-take 8 16 (drop (start + 16 * r) file) (omega arith);
+      second = ap (λ (xs : List ℕ). take 8 (drop 8 xs)) chunk
+          ∙ ap (take 8) (drop-take 8 8 (drop (start + 16 * r) file) ∙ ap (take 8) (drop-drop 8 (start + 16 * r) file))
+          ∙ take-take 8 8 (drop (start + 16 * r + 8) file) (omega arith);
+    }
 
-    pub run_next : t ≡ run_left file start count (r + 1)
-    run_next =
-        let a : 16 * (count - r) ≡ 16 + 16 * (count - (r + 1)) = omega (arith, run_more) in
-        let b : start + 16 * r + 16 ≡ start + 16 * (r + 1) = omega arith in
-        after_chunk (run_left file start count r) x t 16 e size
-        ∙ ap (λ (n : ℕ). drop 16 (take n (drop (start + 16 * r) file))) a
-        ∙ drop-take 16 (16 * (count - (r + 1))) (drop (start + 16 * r) file)
-        ∙ ap (take (16 * (count - (r + 1)))) (drop-drop 16 (start + 16 * r) file ∙ ap (λ (n : ℕ). drop n file) b)
+module _ {file : List ℕ} {start count r : ℕ} {x t : List ℕ} (k : NextRecord file start count r x t) where
+  is_record : (ls : List Label) → verdict x start r ls ≡ record_at file (start + 16 * r) ls
+  is_record ls = ap (λ (bs : List ℕ). judged (label_of bs) (second_of (start + 16 * r) (eight_at x 8)) (start + 16 * r) ls) k.first ∙ ap (λ (bs : List ℕ). judged (label_of (eight_at file (start + 16 * r))) (second_of (start + 16 * r) bs) (start + 16 * r) ls) k.second
 
-    chunk : x ≡ take 16 (drop (start + 16 * r) file)
-    chunk = first_chunk (run_left file start count r) x t 16 e size ∙ take-take 16 (16 * (count - r)) (drop (start + 16 * r) file) (omega (arith, run_more))
+  at_record : (ls : List Label) (js : List ℕ) (v : Result Record PlanFault) → v ≡ verdict x start r ls → joined_on ls js v (records_from file (places_of (start + 16 * (r + 1)) (count - (r + 1)))) ≡ records_from file (places_of (start + 16 * r) (count - r)) ls js
+  at_record ls js v q =
+      let s : count - r ≡ suc (count - (r + 1)) = omega (arith, k.more) in
+      let b : start + 16 * (r + 1) ≡ start + 16 * r + 16 = omega arith in
+      ap (λ (w : Result Record PlanFault). joined_on ls js w (records_from file (places_of (start + 16 * (r + 1)) (count - (r + 1))))) (q ∙ is_record ls)
+      ∙ ap (λ (n : ℕ). joined_on ls js (record_at file (start + 16 * r) ls) (records_from file (places_of n (count - (r + 1))))) b
+      ∙ sym (ap (λ (m : ℕ). records_from file (places_of (start + 16 * r) m) ls js) s)
 
-    first_half : eight_at x 0 ≡ eight_at file (start + 16 * r)
-    first_half = ap (take 8) chunk ∙ take-take 8 16 (drop (start + 16 * r) file) (omega arith)
+  pub record_more : (ls : List Label) (js : List ℕ) (v : Record) → Ok v ≡ verdict x start r ls → records_from file (places_of (start + 16 * (r + 1)) (count - (r + 1))) (ls ++ v.label ∷ []) (js ++ join_of v.joined ∷ []) ≡ records_from file (places_of (start + 16 * r) (count - r)) ls js
+  record_more ls js v q = at_record ls js (Ok v) q
 
-    second_half : eight_at x 8 ≡ eight_at file (start + 16 * r + 8)
-    second_half = ap (λ (xs : List ℕ). take 8 (drop 8 xs)) chunk ∙ ap (take 8) (drop-take 8 8 (drop (start + 16 * r) file) ∙ ap (take 8) (drop-drop 8 (start + 16 * r) file)) ∙ take-take 8 8 (drop (start + 16 * r + 8) file) (omega arith)
-
-    is_record : (ls : List Label) → verdict x start r ls ≡ record_at file (start + 16 * r) ls
-    is_record ls = ap (λ (bs : List ℕ). judged (label_of bs) (second_of (start + 16 * r) (eight_at x 8)) (start + 16 * r) ls) first_half ∙ ap (λ (bs : List ℕ). judged (label_of (eight_at file (start + 16 * r))) (second_of (start + 16 * r) bs) (start + 16 * r) ls) second_half
-
-    at_record : (ls : List Label) (js : List ℕ) (v : Result Record PlanFault) → v ≡ verdict x start r ls → joined_on ls js v (records_from file (places_of (start + 16 * (r + 1)) (count - (r + 1)))) ≡ records_from file (places_of (start + 16 * r) (count - r)) ls js
-    at_record ls js v q =
-        let s : count - r ≡ suc (count - (r + 1)) = omega (arith, run_more) in
-        let b : start + 16 * (r + 1) ≡ start + 16 * r + 16 = omega arith in
-        ap (λ (w : Result Record PlanFault). joined_on ls js w (records_from file (places_of (start + 16 * (r + 1)) (count - (r + 1))))) (q ∙ is_record ls)
-        ∙ ap (λ (n : ℕ). joined_on ls js (record_at file (start + 16 * r) ls) (records_from file (places_of n (count - (r + 1))))) b
-        ∙ sym (ap (λ (m : ℕ). records_from file (places_of (start + 16 * r) m) ls js) s)
-
-    pub record_more : (ls : List Label) (js : List ℕ) (v : Record) → Ok v ≡ verdict x start r ls → records_from file (places_of (start + 16 * (r + 1)) (count - (r + 1))) (ls ++ v.label ∷ []) (js ++ join_of v.joined ∷ []) ≡ records_from file (places_of (start + 16 * r) (count - r)) ls js
-    record_more ls js v q = at_record ls js (Ok v) q
-
-    pub record_fault : (ls : List Label) (js : List ℕ) (f : PlanFault) → Err f ≡ verdict x start r ls → Err f ≡ records_from file (places_of (start + 16 * r) (count - r)) ls js
-    record_fault ls js f q = at_record ls js (Err f) q
+  pub record_fault : (ls : List Label) (js : List ℕ) (f : PlanFault) → Err f ≡ verdict x start r ls → Err f ≡ records_from file (places_of (start + 16 * r) (count - r)) ls js
+  record_fault ls js f q = at_record ls js (Err f) q
 
 -- records at ps, then those at qs
 records_on : (file ps qs : List ℕ) (ls : List Label) (js : List ℕ) (rs : Records) → records_from file ps ls js ≡ Ok rs → records_from file (ps ++ qs) ls js ≡ records_from file qs rs.labels rs.joins
