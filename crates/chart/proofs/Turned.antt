@@ -3,9 +3,11 @@ use Rattle.std.proofs.Common.{◌≡◌, ◌≢◌, ℕ, ◌+◌, ◌<◌, ◌�
 use lib.ListN.{length-map}
 use Rattle.std.proofs.lemmas.List.{get_or-map, map-set, get_or-replicate, get_or_default, length-replicate, get_or-set_other, get_or-set_same}
 use Rattle.std.proofs.lemmas.Bool.{cases_eq}
-use Rattle.records.specs.Lists.{join_of, joins_of, labels_of, records_of, JoinedBefore, Lawful}
+use Rattle.records.specs.Lists.{join_of, records_of, JoinedBefore, Lawful}
+use Rattle.records.proofs.Listing.{joined_earlier}
+use Rattle.label.specs.Labels.{zero_label}
 use Rattle.records.specs.declared.record.Record.{Record}
-use Rattle.tree.specs.Records.{Records}
+use Rattle.tree.specs.Records.{Records, label_at, Different, Earlier}
 use Rattle.tree.specs.Turned.{Unset, Turned, Settling, Settled}
 use Rattle.tree.proofs.Turning.{turned_start, turned_more, settling_more, settling_kept}
 use Rattle.chart.specs.Links.{up_of, depth_of, ups_of, depths_of}
@@ -53,28 +55,40 @@ not_linked None e = refl
 
 -- records ---------------------------------------------------------------------------------------
 
-module _ (rs : List Record) (v : Records) (is : records_of rs ≡ v) where
-  pub labels_long : length v.labels ≡ length rs
-  labels_long = sym (ap (λ (x : Records). length x.labels) is) ∙ length-map rs (λ (x : Record). x.label)
+-- rows of which v is what they say
+pub record Says (rs : List Record) (v : Records) : Type 0 where
+  pub is : records_of rs ≡ v
+  pub lawful : Lawful rs
+  pub labels : length v.labels ≡ length rs
+  pub joins : length v.joins ≡ length rs
+  pub few : length rs ≤ 1024
+  pub earlier : Earlier v.joins
+  pub different : Different v.labels
 
-  pub joins_long : length (joins_of rs) ≡ length rs
-  joins_long = length-map rs (λ (x : Record). join_of x.joined)
+pub says : (rs : List Record) (v : Records) → records_of rs ≡ v → Lawful rs → Says rs v
+says rs v is w =
+    record {
+      is = is;
+      lawful = w;
+      labels = sym (ap (λ (x : Records). length x.labels) is) ∙ length-map rs (λ (x : Record). x.label);
+      joins = sym (ap (λ (x : Records). length x.joins) is) ∙ length-map rs (λ (x : Record). join_of x.joined);
+      few = w.few;
+      earlier = subst (λ (x : Records). Earlier x.joins) is (joined_earlier rs w);
+      different = subst (λ (x : Records). Different x.labels) is w.different;
+    }
 
-  pub joins_are : joins_of rs ≡ v.joins
-  joins_are = ap (λ (x : Records). x.joins) is
+-- the join of record k, and its label
+join_at : (rs : List Record) (v : Records) → Says rs v → (k : ℕ) (d : Record) → k < length rs → get_or v.joins k 0 ≡ join_of (get_or rs k d).joined
+join_at rs v s k d h = sym (ap (λ (x : Records). get_or x.joins k 0) s.is) ∙ get_or-map (λ (x : Record). join_of x.joined) rs k d 0 h
 
-  pub labels_are : labels_of rs ≡ v.labels
-  labels_are = ap (λ (x : Records). x.labels) is
+pub row_join : (rs : List Record) (v : Records) → Says rs v → (k : ℕ) (r : Record) → k < length rs → r ≡ get_or rs k r → get_or v.joins k 0 ≡ join_of r.joined
+row_join rs v s k r h e = join_at rs v s k r h ∙ ap (λ (x : Record). join_of x.joined) (sym e)
 
--- the join of record k
-join_at : (rs : List Record) (k : ℕ) (d : Record) → k < length rs → get_or (joins_of rs) k 0 ≡ join_of (get_or rs k d).joined
-join_at rs k d h = get_or-map (λ (x : Record). join_of x.joined) rs k d 0 h
+pub join_is : (rs : List Record) (v : Records) → Says rs v → (k : ℕ) (d : Record) (j : ℕ) → k < length rs → (get_or rs k d).joined ≡ Some j → get_or v.joins k 0 ≡ j
+join_is rs v s k d j h e = join_at rs v s k d h ∙ ap join_of e
 
-pub row_join : (rs : List Record) (k : ℕ) (r : Record) → k < length rs → r ≡ get_or rs k r → get_or (joins_of rs) k 0 ≡ join_of r.joined
-row_join rs k r h e = join_at rs k r h ∙ ap (λ (x : Record). join_of x.joined) (sym e)
-
-pub join_is : (rs : List Record) (k : ℕ) (d : Record) (j : ℕ) → k < length rs → (get_or rs k d).joined ≡ Some j → get_or (joins_of rs) k 0 ≡ j
-join_is rs k d j h e = join_at rs k d h ∙ ap join_of e
+pub row_label : (rs : List Record) (v : Records) → Says rs v → (k : ℕ) (r : Record) → k < length rs → r ≡ get_or rs k r → label_at v.labels k ≡ r.label
+row_label rs v s k r h e = sym (ap (λ (x : Records). label_at x.labels k) s.is) ∙ get_or-map (λ (x : Record). x.label) rs k r zero_label h ∙ ap (λ (x : Record). x.label) (sym e)
 
 named_at : (rs : List Record) (k : ℕ) (d : Record) (o : Option ℕ) → Lawful rs → k < length rs → (get_or rs k d).joined ≡ o → JoinedBefore k o
 named_at rs k d o w h e = subst (JoinedBefore k) (ap (λ (x : Record). x.joined) (get_or_default rs k _ d h) ∙ e) (w.joined k h)

@@ -38,48 +38,49 @@ verdict x start r ls = judged (label_of (eight_at x 0)) (second_of (start + 16 *
 pub verdict_same : (x : List ℕ) (start r k : ℕ) (ls ms : List Label) → r ≡ k → ls ≡ ms → verdict x start r ls ≡ verdict x start k ms
 verdict_same x start r k ls ms e f = ap (λ (i : ℕ). verdict x start i ls) e ∙ ap (verdict x start k) f
 
-module _ (file : List ℕ) (start count r : ℕ) (within : start + 16 * count ≤ length file) where
-  run_long : r ≤ count → length (run_left file start count r) ≡ 16 * (count - r)
-  run_long l = length-take-le (16 * (count - r)) (drop (start + 16 * r) file) (omega (arith, length-drop (start + 16 * r) file))
+-- x is record r, and t those after it
+pub record NextRecord (file : List ℕ) (start count r : ℕ) (x t : List ℕ) : Type 0 where
+  pub more : r < count
+  pub next : t ≡ run_left file start count (r + 1)
+  pub first : eight_at x 0 ≡ eight_at file (start + 16 * r)
+  pub second : eight_at x 8 ≡ eight_at file (start + 16 * r + 8)
 
-  module _ (x t : List ℕ) (few : r ≤ count) (e : run_left file start count r ≡ x ++ t) (size : length x ≡ 16) where
-    pub run_more : r < count
-    run_more = omega (arith, run_long few, ap length e, length-append x t)
+pub next_record : (file : List ℕ) (start count r : ℕ) (xs x t : List ℕ) (size : ℕ) → start + 16 * count ≤ length file → r ≤ count → xs ≡ run_left file start count r → xs ≡ x ++ t → length x ≡ size → size ≡ 16 → NextRecord file start count r x t
+next_record file start count r xs x t size within few left cut long is =
+    let e : run_left file start count r ≡ x ++ t = sym left ∙ cut in
+    let more : r < count = omega (arith, length-take-le (16 * (count - r)) (drop (start + 16 * r) file) (omega (arith, length-drop (start + 16 * r) file)), ap length e, length-append x t) in
+    let a : 16 * (count - r) ≡ 16 + 16 * (count - (r + 1)) = omega arith in
+    let b : start + 16 * r + 16 ≡ start + 16 * (r + 1) = omega arith in
+    let chunk : x ≡ take 16 (drop (start + 16 * r) file) = first_chunk (run_left file start count r) x t 16 e (long ∙ is) ∙ take-take 16 (16 * (count - r)) (drop (start + 16 * r) file) (omega arith) in
+    record {
+      more = more;
+      next = after_chunk (run_left file start count r) x t 16 e (long ∙ is)
+          ∙ ap (λ (n : ℕ). drop 16 (take n (drop (start + 16 * r) file))) a
+          ∙ drop-take 16 (16 * (count - (r + 1))) (drop (start + 16 * r) file)
+          ∙ ap (take (16 * (count - (r + 1)))) (drop-drop 16 (start + 16 * r) file ∙ ap (λ (n : ℕ). drop n file) b);
+      first = ap (take 8) chunk ∙ take-take 8 16 (drop (start + 16 * r) file) (omega arith);
+      second = ap (λ (xs : List ℕ). take 8 (drop 8 xs)) chunk
+          ∙ ap (take 8) (drop-take 8 8 (drop (start + 16 * r) file) ∙ ap (take 8) (drop-drop 8 (start + 16 * r) file))
+          ∙ take-take 8 8 (drop (start + 16 * r + 8) file) (omega arith);
+    }
 
-    pub run_next : t ≡ run_left file start count (r + 1)
-    run_next =
-        let a : 16 * (count - r) ≡ 16 + 16 * (count - (r + 1)) = omega (arith, run_more) in
-        let b : start + 16 * r + 16 ≡ start + 16 * (r + 1) = omega arith in
-        after_chunk (run_left file start count r) x t 16 e size
-        ∙ ap (λ (n : ℕ). drop 16 (take n (drop (start + 16 * r) file))) a
-        ∙ drop-take 16 (16 * (count - (r + 1))) (drop (start + 16 * r) file)
-        ∙ ap (take (16 * (count - (r + 1)))) (drop-drop 16 (start + 16 * r) file ∙ ap (λ (n : ℕ). drop n file) b)
+module _ {file : List ℕ} {start count r : ℕ} {x t : List ℕ} (k : NextRecord file start count r x t) where
+  is_record : (ls : List Label) → verdict x start r ls ≡ record_at file (start + 16 * r) ls
+  is_record ls = ap (λ (bs : List ℕ). judged (label_of bs) (second_of (start + 16 * r) (eight_at x 8)) (start + 16 * r) ls) k.first ∙ ap (λ (bs : List ℕ). judged (label_of (eight_at file (start + 16 * r))) (second_of (start + 16 * r) bs) (start + 16 * r) ls) k.second
 
-    chunk : x ≡ take 16 (drop (start + 16 * r) file)
-    chunk = first_chunk (run_left file start count r) x t 16 e size ∙ take-take 16 (16 * (count - r)) (drop (start + 16 * r) file) (omega (arith, run_more))
+  at_record : (ls : List Label) (js : List ℕ) (v : Result Record PlanFault) → v ≡ verdict x start r ls → joined_on ls js v (records_from file (places_of (start + 16 * (r + 1)) (count - (r + 1)))) ≡ records_from file (places_of (start + 16 * r) (count - r)) ls js
+  at_record ls js v q =
+      let s : count - r ≡ suc (count - (r + 1)) = omega (arith, k.more) in
+      let b : start + 16 * (r + 1) ≡ start + 16 * r + 16 = omega arith in
+      ap (λ (w : Result Record PlanFault). joined_on ls js w (records_from file (places_of (start + 16 * (r + 1)) (count - (r + 1))))) (q ∙ is_record ls)
+      ∙ ap (λ (n : ℕ). joined_on ls js (record_at file (start + 16 * r) ls) (records_from file (places_of n (count - (r + 1))))) b
+      ∙ sym (ap (λ (m : ℕ). records_from file (places_of (start + 16 * r) m) ls js) s)
 
-    first_half : eight_at x 0 ≡ eight_at file (start + 16 * r)
-    first_half = ap (take 8) chunk ∙ take-take 8 16 (drop (start + 16 * r) file) (omega arith)
+  pub record_more : (ls : List Label) (js : List ℕ) (v : Record) → Ok v ≡ verdict x start r ls → records_from file (places_of (start + 16 * (r + 1)) (count - (r + 1))) (ls ++ v.label ∷ []) (js ++ join_of v.joined ∷ []) ≡ records_from file (places_of (start + 16 * r) (count - r)) ls js
+  record_more ls js v q = at_record ls js (Ok v) q
 
-    second_half : eight_at x 8 ≡ eight_at file (start + 16 * r + 8)
-    second_half = ap (λ (xs : List ℕ). take 8 (drop 8 xs)) chunk ∙ ap (take 8) (drop-take 8 8 (drop (start + 16 * r) file) ∙ ap (take 8) (drop-drop 8 (start + 16 * r) file)) ∙ take-take 8 8 (drop (start + 16 * r + 8) file) (omega arith)
-
-    is_record : (ls : List Label) → verdict x start r ls ≡ record_at file (start + 16 * r) ls
-    is_record ls = ap (λ (bs : List ℕ). judged (label_of bs) (second_of (start + 16 * r) (eight_at x 8)) (start + 16 * r) ls) first_half ∙ ap (λ (bs : List ℕ). judged (label_of (eight_at file (start + 16 * r))) (second_of (start + 16 * r) bs) (start + 16 * r) ls) second_half
-
-    at_record : (ls : List Label) (js : List ℕ) (v : Result Record PlanFault) → v ≡ verdict x start r ls → joined_on ls js v (records_from file (places_of (start + 16 * (r + 1)) (count - (r + 1)))) ≡ records_from file (places_of (start + 16 * r) (count - r)) ls js
-    at_record ls js v q =
-        let s : count - r ≡ suc (count - (r + 1)) = omega (arith, run_more) in
-        let b : start + 16 * (r + 1) ≡ start + 16 * r + 16 = omega arith in
-        ap (λ (w : Result Record PlanFault). joined_on ls js w (records_from file (places_of (start + 16 * (r + 1)) (count - (r + 1))))) (q ∙ is_record ls)
-        ∙ ap (λ (n : ℕ). joined_on ls js (record_at file (start + 16 * r) ls) (records_from file (places_of n (count - (r + 1))))) b
-        ∙ sym (ap (λ (m : ℕ). records_from file (places_of (start + 16 * r) m) ls js) s)
-
-    pub record_more : (ls : List Label) (js : List ℕ) (v : Record) → Ok v ≡ verdict x start r ls → records_from file (places_of (start + 16 * (r + 1)) (count - (r + 1))) (ls ++ v.label ∷ []) (js ++ join_of v.joined ∷ []) ≡ records_from file (places_of (start + 16 * r) (count - r)) ls js
-    record_more ls js v q = at_record ls js (Ok v) q
-
-    pub record_fault : (ls : List Label) (js : List ℕ) (f : PlanFault) → Err f ≡ verdict x start r ls → Err f ≡ records_from file (places_of (start + 16 * r) (count - r)) ls js
-    record_fault ls js f q = at_record ls js (Err f) q
+  pub record_fault : (ls : List Label) (js : List ℕ) (f : PlanFault) → Err f ≡ verdict x start r ls → Err f ≡ records_from file (places_of (start + 16 * r) (count - r)) ls js
+  record_fault ls js f q = at_record ls js (Err f) q
 
 -- records at ps, then those at qs
 records_on : (file ps qs : List ℕ) (ls : List Label) (js : List ℕ) (rs : Records) → records_from file ps ls js ≡ Ok rs → records_from file (ps ++ qs) ls js ≡ records_from file qs rs.labels rs.joins
@@ -149,42 +150,43 @@ run_fault file n b c l k ls js f e =
 pub starts_long : (file : List ℕ) (n b : ℕ) → b < n → length (starts file b (n - b)) ≡ count_at file b + length (starts file (b + 1) (n - (b + 1)))
 starts_long file n b l = omega (arith, ap length (starts_first file n b l), length-append (places_of (512 * b + 4) (count_at file b)) (starts file (b + 1) (n - (b + 1))), places_long (512 * b + 4) (count_at file b))
 
-module _ (file : List ℕ) (n b : ℕ) (whole : length file ≡ 512 * n) where
-  left_long : b ≤ n → length (blocks_left file b) ≡ 512 * (n - b)
-  left_long l = omega (arith, length-drop (512 * b) file)
+-- x is block b, and t the blocks after it
+pub record NextBlock (file : List ℕ) (n b : ℕ) (x t : List ℕ) : Type 0 where
+  pub more : b < n
+  pub next : t ≡ blocks_left file (b + 1)
+  pub is : x ≡ block_at file b
 
-  module _ (x t : List ℕ) (few : b ≤ n) (e : blocks_left file b ≡ x ++ t) (size : length x ≡ 512) where
-    pub blocks_more : b < n
-    blocks_more = omega (arith, left_long few, ap length e, length-append x t)
+pub next_block : (file : List ℕ) (n b : ℕ) (xs x t : List ℕ) (size : ℕ) → length file ≡ 512 * n → b ≤ n → xs ≡ blocks_left file b → xs ≡ x ++ t → length x ≡ size → size ≡ 512 → NextBlock file n b x t
+next_block file n b xs x t size whole few left cut long is =
+    let e : blocks_left file b ≡ x ++ t = sym left ∙ cut in
+    let a : 512 * b + 512 ≡ 512 * (b + 1) = omega arith in
+    record {
+      more = omega (arith, length-drop (512 * b) file, ap length e, length-append x t);
+      next = after_chunk (blocks_left file b) x t 512 e (long ∙ is) ∙ drop-drop 512 (512 * b) file ∙ ap (λ (k : ℕ). drop k file) a;
+      is = first_chunk (blocks_left file b) x t 512 e (long ∙ is);
+    }
 
-    pub blocks_next : t ≡ blocks_left file (b + 1)
-    blocks_next =
-        let a : 512 * b + 512 ≡ 512 * (b + 1) = omega arith in
-        after_chunk (blocks_left file b) x t 512 e size ∙ drop-drop 512 (512 * b) file ∙ ap (λ (k : ℕ). drop k file) a
+module _ {file : List ℕ} {n b : ℕ} {x t : List ℕ} (k : NextBlock file n b x t) where
+  at_block : (ps : List ℕ) (v : Result ℕ BlockFault) → v ≡ block_verdict x b (eqb (b + 1) n) (512 * b) → placed (512 * b + 4) ps v (blocks_from file n (b + 1) (n - (b + 1))) ≡ blocks_from file n b (n - b) ps
+  at_block ps v q =
+      let s : n - b ≡ suc (n - (b + 1)) = omega (arith, k.more) in
+      ap (λ r. placed (512 * b + 4) ps r (blocks_from file n (b + 1) (n - (b + 1)))) (q ∙ ap (λ (bs : List ℕ). block_verdict bs b (eqb (b + 1) n) (512 * b)) k.is)
+      ∙ sym (ap (λ (m : ℕ). blocks_from file n b m ps) s)
 
-    pub is_block : x ≡ block_at file b
-    is_block = first_chunk (blocks_left file b) x t 512 e size
+  pub block_good : (c : ℕ) → Ok c ≡ block_verdict x b (eqb (b + 1) n) (512 * b) → GoodBlock file n b c
+  block_good c q = verdict_good file n b c (sym (q ∙ ap (λ (bs : List ℕ). block_verdict bs b (eqb (b + 1) n) (512 * b)) k.is))
 
-    at_block : (ps : List ℕ) (v : Result ℕ BlockFault) → v ≡ block_verdict x b (eqb (b + 1) n) (512 * b) → placed (512 * b + 4) ps v (blocks_from file n (b + 1) (n - (b + 1))) ≡ blocks_from file n b (n - b) ps
-    at_block ps v q =
-        let s : n - b ≡ suc (n - (b + 1)) = omega (arith, blocks_more) in
-        ap (λ r. placed (512 * b + 4) ps r (blocks_from file n (b + 1) (n - (b + 1)))) (q ∙ ap (λ (bs : List ℕ). block_verdict bs b (eqb (b + 1) n) (512 * b)) is_block)
-        ∙ sym (ap (λ (m : ℕ). blocks_from file n b m ps) s)
+  pub block_fault : (ps : List ℕ) (f : BlockFault) → Err f ≡ block_verdict x b (eqb (b + 1) n) (512 * b) → Err (Block f) ≡ blocks_from file n b (n - b) ps
+  block_fault ps f q = at_block ps (Err f) q
 
-    pub block_good : (c : ℕ) → Ok c ≡ block_verdict x b (eqb (b + 1) n) (512 * b) → GoodBlock file n b c
-    block_good c q = verdict_good file n b c (sym (q ∙ ap (λ (bs : List ℕ). block_verdict bs b (eqb (b + 1) n) (512 * b)) is_block))
+  pub block_more : (c : ℕ) → Ok c ≡ block_verdict x b (eqb (b + 1) n) (512 * b) → blocks_from file n (b + 1) (n - (b + 1)) (starts file 0 (b + 1)) ≡ blocks_from file n b (n - b) (starts file 0 b)
+  block_more c q =
+      let g = block_good c q in
+      ap (blocks_from file n (b + 1) (n - (b + 1))) (starts_more file b ∙ ap (λ (m : ℕ). starts file 0 b ++ places_of (512 * b + 4) m) g.count)
+      ∙ at_block (starts file 0 b) (Ok c) q
 
-    pub block_fault : (ps : List ℕ) (f : BlockFault) → Err f ≡ block_verdict x b (eqb (b + 1) n) (512 * b) → Err (Block f) ≡ blocks_from file n b (n - b) ps
-    block_fault ps f q = at_block ps (Err f) q
-
-    pub block_more : (c : ℕ) → Ok c ≡ block_verdict x b (eqb (b + 1) n) (512 * b) → blocks_from file n (b + 1) (n - (b + 1)) (starts file 0 (b + 1)) ≡ blocks_from file n b (n - b) (starts file 0 b)
-    block_more c q =
-        let g = block_good c q in
-        ap (blocks_from file n (b + 1) (n - (b + 1))) (starts_more file b ∙ ap (λ (k : ℕ). starts file 0 b ++ places_of (512 * b + 4) k) g.count)
-        ∙ at_block (starts file 0 b) (Ok c) q
-
-    pub block_long : (c : ℕ) → Ok c ≡ block_verdict x b (eqb (b + 1) n) (512 * b) → length (starts file 0 (b + 1)) ≡ length (starts file 0 b) + c
-    block_long c q =
-        let g = block_good c q in
-        let k = g.count in
-        omega (arith, ap length (starts_more file b), length-append (starts file 0 b) (places_of (512 * b + 4) (count_at file b)), places_long (512 * b + 4) (count_at file b))
+  pub block_long : (c : ℕ) → Ok c ≡ block_verdict x b (eqb (b + 1) n) (512 * b) → length (starts file 0 (b + 1)) ≡ length (starts file 0 b) + c
+  block_long c q =
+      let g = block_good c q in
+      let m = g.count in
+      omega (arith, ap length (starts_more file b), length-append (starts file 0 b) (places_of (512 * b + 4) (count_at file b)), places_long (512 * b + 4) (count_at file b))

@@ -1,20 +1,17 @@
-use Rattle.std.proofs.Common.{ℕ, List, ◌<◌, replicate, None, Option, ◌∙◌, subst, refl, arith, length-set}
+use Rattle.std.proofs.Common.{◌<◌, replicate, None, Option, ◌∙◌, subst, refl, arith, length-set}
 use Rattle.std.proofs.lemmas.List.{length-replicate}
 use Rattle.chart.specs.declared.link.Link.{Link}
-use Rattle.records.specs.Lists.{joins_of}
 use Rattle.tree.specs.Turned.{Turned}
 use Rattle.chart.specs.Links.{ups_of, depths_of}
-use Rattle.chart.proofs.Turned.{labels_long, joins_long, joins_are, join_is, before_is, first_is, first_long, depth_set, turned_first, turned_next}
+use Rattle.chart.proofs.Turned.{says, join_is, before_is, first_is, first_long, depth_set, turned_first, turned_next}
 use Rattle.chart.proofs.turn.reverse.Goals as goal
 
 pub loop-here-init : goal.loop-here-init
 loop-here-init c =
-    let n = labels_long c.as_slice-rows.result.now c.args.records.now c.as_slice-rows.ensures.value in
-    let m = joins_long c.as_slice-rows.result.now c.args.records.now c.as_slice-rows.ensures.value in
-    let few = c.as_slice-rows.ensures.lawful.few in
+    let n = says c.as_slice-rows.result.now c.args.records.now c.as_slice-rows.ensures.value c.as_slice-rows.ensures.lawful in
     record {
       long = first_long c.args.root _;
-      turned = turned_first (joins_of c.as_slice-rows.result.now) c.args.root _ (omega arith) (omega arith) refl refl;
+      turned = turned_first c.args.records.now.joins c.args.root _ (omega arith) (omega arith) refl refl;
       low = omega arith;
       at = depth_set (replicate 1024 None) c.args.root _ (omega (arith, length-replicate {A = Option Link} 1024 None));
       deep = omega arith;
@@ -23,14 +20,12 @@ loop-here-init c =
 pub loop-here-preserved : goal.loop-here-preserved
 loop-here-preserved c =
     let i = c.loop-here.invariant in
-    let n = labels_long c.as_slice-rows.result.now c.args.records.now c.as_slice-rows.ensures.value in
-    let m = joins_long c.as_slice-rows.result.now c.args.records.now c.as_slice-rows.ensures.value in
-    let few = c.as_slice-rows.ensures.lawful.few in
-    let is = join_is c.as_slice-rows.result.now c.loop-here.here _ c.in-Some.below (omega arith) c.in-Some.is in
+    let n = says c.as_slice-rows.result.now c.args.records.now c.as_slice-rows.ensures.value c.as_slice-rows.ensures.lawful in
+    let is = join_is c.as_slice-rows.result.now c.args.records.now n c.loop-here.here _ c.in-Some.below (omega arith) c.in-Some.is in
     let before : c.in-Some.below < c.loop-here.here = before_is c.as_slice-rows.result.now c.loop-here.here _ c.in-Some.below c.as_slice-rows.ensures.lawful (omega arith) c.in-Some.is in
     record {
       long = length-set c.loop-here.links _ _ ∙ i.long;
-      turned = turned_next (joins_of c.as_slice-rows.result.now) c.args.root c.loop-here.links c.loop-here.here c.in-Some.below c.loop-here.link.depth _ (omega arith) i.long (omega arith) (omega arith) i.low is before i.at (omega arith) refl refl i.turned;
+      turned = turned_next c.args.records.now.joins c.args.root c.loop-here.links c.loop-here.here c.in-Some.below c.loop-here.link.depth _ (omega arith) i.long (omega arith) (omega arith) i.low is before i.at (omega arith) refl refl i.turned;
       low = omega arith;
       at = depth_set c.loop-here.links c.in-Some.below _ (omega arith);
       deep = omega arith;
@@ -38,8 +33,7 @@ loop-here-preserved c =
 
 pub returns : goal.returns
 returns c =
-    let n = labels_long c.as_slice-rows.result.now c.args.records.now c.as_slice-rows.ensures.value in
+    let n = says c.as_slice-rows.result.now c.args.records.now c.as_slice-rows.ensures.value c.as_slice-rows.ensures.lawful in
     let low = c.loop-here.invariant.low in
     let z = first_is c.as_slice-rows.result.now c.loop-here.here _ c.as_slice-rows.ensures.lawful (omega arith) c.in_default.is in
-    subst (λ (js : List ℕ). Turned js c.args.root (ups_of c.loop-here.links) (depths_of c.loop-here.links) 0) (joins_are c.as_slice-rows.result.now c.args.records.now c.as_slice-rows.ensures.value)
-    (subst (Turned (joins_of c.as_slice-rows.result.now) c.args.root (ups_of c.loop-here.links) (depths_of c.loop-here.links)) z c.loop-here.invariant.turned)
+    subst (Turned c.args.records.now.joins c.args.root (ups_of c.loop-here.links) (depths_of c.loop-here.links)) z c.loop-here.invariant.turned

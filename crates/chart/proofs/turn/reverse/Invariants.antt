@@ -1,5 +1,4 @@
 use Rattle.std.proofs.Common.{◌≡◌, ◌+◌, ◌≤◌, length, get_or}
-use Rattle.records.specs.Lists.{joins_of}
 use Rattle.tree.specs.Turned.{Turned}
 use Rattle.chart.specs.Links.{ups_of, depths_of}
 use Rattle.chart.proofs.turn.reverse.Given as goal
@@ -8,7 +7,7 @@ abbrev pub invariant-loop-here : goal.invariant-loop-here
 invariant-loop-here l =
     record {
       long : length l.links ≡ 1024;
-      turned : Turned (joins_of l.rows) l.root (ups_of l.links) (depths_of l.links) l.here;
+      turned : Turned l.records.joins l.root (ups_of l.links) (depths_of l.links) l.here;
       low : l.here ≤ l.root;
       at : get_or (depths_of l.links) l.here 0 ≡ l.link.depth;
       deep : l.link.depth + l.here ≤ l.root + 1;

@@ -1,56 +1,48 @@
-use Rattle.std.proofs.Common.{rules, ◌≡◌, ◌+◌, ◌<◌, ◌≤◌, true, false, not, List, ℕ, get_or, is_some, sym, ap, ◌∙◌, subst, arith, length-set}
-use Rattle.records.specs.Lists.{joins_of}
-use Rattle.records.proofs.Listing.{joined_earlier}
-use Rattle.tree.specs.Turned.{Turned, Settled}
-use Rattle.chart.specs.Links.{ups_of, depths_of}
-use Rattle.chart.proofs.Turned.{joins_long, joins_are, row_join, joined_some, settling_first, settling_all, settled_kept, settled_more, not_first, first_kept}
+use Rattle.std.proofs.Common.{rules, ◌≡◌, ◌+◌, ◌<◌, ◌≤◌, true, false, not, ℕ, get_or, is_some, sym, ap, ◌∙◌, subst, arith, length-set}
+use Rattle.chart.specs.Links.{depths_of}
+use Rattle.chart.proofs.Turned.{says, row_join, joined_some, settling_first, settling_all, settled_kept, settled_more, not_first, first_kept}
 use Rattle.chart.proofs.turn.turn.Goals as goal
 use Rattle.chart.proofs.turn.turn.Goals.{then-is_none, else-is_none}
 
 pub loop-k-init : goal.loop-k-init
-loop-k-init c =
-    let t = subst (λ (js : List ℕ). Turned js c.args.root (ups_of c.reverse-links.result) (depths_of c.reverse-links.result) 0) (sym (joins_are c.as_slice-row-items.result.now c.args.records.now c.as_slice-row-items.ensures.value)) c.reverse-links.ensures in
-    record { long = search rules; first = t.here; settling = settling_first _ _ _ _ t }
+loop-k-init c = record { long = search rules; first = c.reverse-links.ensures.here; settling = settling_first _ _ _ _ c.reverse-links.ensures }
 
 pub link_to-requires : goal.link_to-requires
 link_to-requires c =
     let i = c.loop-k.invariant in
-    let m = joins_long c.as_slice-row-items.result.now c.args.records.now c.as_slice-row-items.ensures.value in
-    let few = c.as_slice-row-items.ensures.lawful.few in
+    let n = says c.as_slice-row-items.result.now c.args.records.now c.as_slice-row-items.ensures.value c.as_slice-row-items.ensures.lawful in
     let none : is_some c.index-links-k.result ≡ false = ap is_some c.index-links-k.is ∙ c.if-is_none.ensures in
-    let some = not_first (joins_of c.as_slice-row-items.result.now) c.args.root c.loop-k.links c.loop-k.k (omega arith) i.long (omega arith) i.first i.settling c.index-links-k.result c.index-links-k.is none in
-    let is = row_join c.as_slice-row-items.result.now c.loop-k.k c.row-item.result (omega arith) c.row-item.is in
-    let lt = joined_earlier c.as_slice-row-items.result.now c.as_slice-row-items.ensures.lawful c.loop-k.k some (omega arith) in
+    let some = not_first c.args.records.now.joins c.args.root c.loop-k.links c.loop-k.k (omega arith) i.long (omega arith) i.first i.settling c.index-links-k.result c.index-links-k.is none in
+    let is = row_join c.as_slice-row-items.result.now c.args.records.now n c.loop-k.k c.row-item.result (omega arith) c.row-item.is in
+    let lt = n.earlier c.loop-k.k some (omega arith) in
     record {
       some = joined_some c.as_slice-row-items.result.now c.loop-k.k c.row-item.result c.as_slice-row-items.ensures.lawful some (omega arith) c.row-item.is;
       linked = subst (λ (j : ℕ). 0 < get_or (depths_of c.loop-k.links) j 0) is (i.settling.done _ lt);
-      low = subst (λ (j : ℕ). get_or (depths_of c.loop-k.links) j 0 ≤ 2048) is (omega (arith, i.settling.low (get_or (joins_of c.as_slice-row-items.result.now) c.loop-k.k 0) (omega (arith, lt))));
+      low = subst (λ (j : ℕ). get_or (depths_of c.loop-k.links) j 0 ≤ 2048) is (omega (arith, i.settling.low (get_or c.args.records.now.joins c.loop-k.k 0) (omega (arith, lt))));
     }
 
 pub loop-k-preserved : goal.loop-k-preserved
 loop-k-preserved c =
     let i = c.loop-k.invariant in
-    let m = joins_long c.as_slice-row-items.result.now c.args.records.now c.as_slice-row-items.ensures.value in
-    let few = c.as_slice-row-items.ensures.lawful.few in
-    let is = row_join c.as_slice-row-items.result.now c.loop-k.k c.row-item.result (omega arith) c.row-item.is in
+    let n = says c.as_slice-row-items.result.now c.args.records.now c.as_slice-row-items.ensures.value c.as_slice-row-items.ensures.lawful in
+    let is = row_join c.as_slice-row-items.result.now c.args.records.now n c.loop-k.k c.row-item.result (omega arith) c.row-item.is in
     elim c.if-is_none.branch [
       | then-is_none w ↦
           let none : is_some c.index-links-k.result ≡ false = ap is_some c.index-links-k.is ∙ c.is_none.ensures ∙ ap not w.if-is_none.true in
-          let some = not_first (joins_of c.as_slice-row-items.result.now) c.args.root c.loop-k.links c.loop-k.k (omega arith) i.long (omega arith) i.first i.settling c.index-links-k.result c.index-links-k.is none in
-          let lt = joined_earlier c.as_slice-row-items.result.now c.as_slice-row-items.ensures.lawful c.loop-k.k some (omega arith) in
+          let some = not_first c.args.records.now.joins c.args.root c.loop-k.links c.loop-k.k (omega arith) i.long (omega arith) i.first i.settling c.index-links-k.result c.index-links-k.is none in
+          let lt = n.earlier c.loop-k.k some (omega arith) in
           simp w.links-is (record {
             long = length-set c.loop-k.links _ _ ∙ i.long;
-            first = first_kept (joins_of c.as_slice-row-items.result.now) c.args.root c.loop-k.links c.loop-k.k (omega arith) i.long (omega arith) i.first i.settling c.index-links-k.result c.index-links-k.is none _;
-            settling = settled_more (joins_of c.as_slice-row-items.result.now) c.args.root c.loop-k.links c.loop-k.k (omega arith) i.long (omega arith) i.first i.settling c.index-links-k.result c.index-links-k.is none w.link_to.result lt
+            first = first_kept c.args.records.now.joins c.args.root c.loop-k.links c.loop-k.k (omega arith) i.long (omega arith) i.first i.settling c.index-links-k.result c.index-links-k.is none _;
+            settling = settled_more c.args.records.now.joins c.args.root c.loop-k.links c.loop-k.k (omega arith) i.long (omega arith) i.first i.settling c.index-links-k.result c.index-links-k.is none w.link_to.result lt
                 (w.link_to.ensures.up ∙ sym is) (w.link_to.ensures.depth ∙ ap (λ (j : ℕ). get_or (depths_of c.loop-k.links) j 0 + 1) (sym is));
           })
       | else-is_none w ↦
           let some : is_some c.index-links-k.result ≡ true = ap is_some c.index-links-k.is ∙ c.is_none.ensures ∙ ap not w.if-is_none.false in
-          simp w.links-is (record { long = i.long; first = i.first; settling = settled_kept (joins_of c.as_slice-row-items.result.now) c.args.root c.loop-k.links c.loop-k.k (omega arith) i.long (omega arith) i.first i.settling c.index-links-k.result c.index-links-k.is some })
+          simp w.links-is (record { long = i.long; first = i.first; settling = settled_kept c.args.records.now.joins c.args.root c.loop-k.links c.loop-k.k (omega arith) i.long (omega arith) i.first i.settling c.index-links-k.result c.index-links-k.is some })
     ]
 
 pub returns : goal.returns
 returns c =
-    let m = joins_long c.as_slice-row-items.result.now c.args.records.now c.as_slice-row-items.ensures.value in
-    subst (λ (js : List ℕ). Settled js c.args.root (ups_of c.loop-k.links) (depths_of c.loop-k.links)) (joins_are c.as_slice-row-items.result.now c.args.records.now c.as_slice-row-items.ensures.value)
-    (settling_all _ _ _ _ c.loop-k.k (omega arith) c.loop-k.invariant.settling)
+    let n = says c.as_slice-row-items.result.now c.args.records.now c.as_slice-row-items.ensures.value c.as_slice-row-items.ensures.lawful in
+    settling_all _ _ _ _ c.loop-k.k (omega arith) c.loop-k.invariant.settling
