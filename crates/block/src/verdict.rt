@@ -12,6 +12,7 @@ pub fn check_sum(bytes: &[u8]) -> u16
     requires { length bytes.now ≤ 510 }
     ensures { result ≡ check_of bytes.now }
 {
+    // A loop: in a chain the closure would have to know a bound of each place. A place is below 510, so its cast loses nothing.
     let mut sum = 0u32;
     for (k, byte) in bytes.iter().enumerate() {
         sum += (k as u32 + 1) * u32::from(*byte);

@@ -27,6 +27,7 @@ impl fmt::Display for Layer {
     }
 }
 
+// The number is what people call a fault; code tells faults apart by their enums.
 #[derive(Clone, Copy, PartialEq, Eq, Debug)]
 pub struct Diagnostic {
     pub number: u8,

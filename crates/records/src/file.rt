@@ -26,6 +26,7 @@ fn judge_blocks(file: &[u8], blocks: usize) -> Result<usize, PlanFault>
     requires few { blocks ≤ 34 }
     ensures { Judged file.now blocks result }
 {
+    // A block's place is below 34, so its cast loses nothing.
     let mut total = 0;
     for (b, block) in file.chunks_exact(512).enumerate() {
         total += check_block(block, b as u32, b + 1 == blocks, 512 * b)?;

@@ -39,6 +39,7 @@ fn parent_for(earlier: &[Record], second: Option<Label>) -> Option<Option<u16>>
     requires { length earlier.now ≤ 1024 }
     ensures { result ≡ parent_for second (labels_of earlier.now) }
 {
+    // A place is below 1,024, so its cast loses nothing.
     match second {
         None if earlier.is_empty() => Some(None),
         None => None,

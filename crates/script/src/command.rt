@@ -121,6 +121,7 @@ impl From<ParseIntError> for LineFault {
     }
 }
 
+// The two kinds share no words and no fault, so each has its own short table.
 impl FromStr for ValueKind {
     type Err = LineFault;
 

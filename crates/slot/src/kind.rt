@@ -90,6 +90,7 @@ impl Kind for Position {
         Position::new(usize::from(u16::from_be_bytes([*high, *low])))
     }
 
+    // A number is at most 2,047, so its cast loses nothing.
     fn write(self, out: &mut [u8]) {
         lay(&(self.number() as u16).to_be_bytes(), out)
     }

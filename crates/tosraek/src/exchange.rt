@@ -39,7 +39,7 @@ fn slots_in(round: usize) -> usize {
     if round == 1 { 1 } else { UNITS }
 }
 
-// What unit 3 tells a receiver of its own value.
+// What unit 3 tells a receiver of its own value. Round and receiver are two numbers: a struct of them would only be taken apart here.
 fn story(round: usize, receiver: usize) -> Option<Position> {
     match (round, receiver) {
         (3, 1) => None,

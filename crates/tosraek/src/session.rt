@@ -127,6 +127,7 @@ impl Session {
 
     fn way(&self, name: &str, from: &str, to: &str) -> Result<String, NoAnswer> {
         let plan = self.plan(name)?;
+        // `Plan::way` writes into a buffer of the caller's and gives the count, since a plan's calls take no memory.
         let mut way = [plan.root(); 1024];
         let count = plan
             .way(typed(from)?, typed(to)?, &mut way)

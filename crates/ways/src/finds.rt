@@ -10,6 +10,7 @@ impl Cave<'_> {
     pub(crate) fn find(&self, label: Label) -> Option<usize>
         ensures { Found self.now.stations.now label result }
     {
+        // Keys are compared, which are one number each; `Label::order` proves that they are ordered as labels are.
         let found = self
             .stations
             .binary_search_by_key(&label.key(), |station| station.label.key());

@@ -55,7 +55,7 @@ impl Frame {
     }
 
     // The value in slot `s` of a frame of so many slots; missing where there is no such slot, or the frame has
-    // another length.
+    // another length. The two numbers come from different places, so no struct holds them.
     #[tactic(auto, using(crate::proofs::Frames::slot_read))]
     pub fn slot<K: Kind>(&self, slots: usize, s: usize) -> Option<K>
         ensures { result ≡ slot_of K.coding slots s (carried self.now) }

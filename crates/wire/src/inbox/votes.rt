@@ -27,6 +27,7 @@ impl Inbox {
     pub fn tally<K: Kind>(&self, units: usize, s: usize, value: K) -> usize
         ensures { result ≡ count K.coding value (column K.coding units s (box_of self.now)) }
     {
+        // Counts are a `for` loop over the senders' frames, the form that the project sets for them.
         let mut count = 0;
         for frame in &self.frames[..units.min(16)] {
             if is_value(slot_in(frame, units, s), value) {
