@@ -34,7 +34,8 @@ pub trait Kind: Sized + Copy + PartialEq {
     fn write_missing(out: &mut [u8])
         ensures { out.new ≡ laid coding.blank out.old };
 
-    ghost wide: { WIDTH ≡ coding.wide };
+    // The constant is the width that `coding` has.
+    ghost width: { WIDTH ≡ coding.wide };
 
     ghost lawful: { Lawful coding };
 
@@ -50,7 +51,7 @@ impl Kind for Label {
 
     ghost coding = { label_coding };
 
-    ghost wide = { refl };
+    ghost width = { refl };
 
     ghost lawful = { label_lawful };
 
@@ -77,7 +78,7 @@ impl Kind for Position {
 
     ghost coding = { position_coding };
 
-    ghost wide = { refl };
+    ghost width = { refl };
 
     ghost lawful = { position_lawful };
 

@@ -15,5 +15,4 @@ pub mod Ways
 pub mod Meaning
 pub mod Walking
 pub mod Courses
-pub mod Indexing
 pub mod Steps
