@@ -28,7 +28,7 @@ fn graded_positions(grading: &Grading<Position>) -> [Option<Position>; 16]
 fn rounds_for(crew: Crew, span: Position) -> usize
     ensures { result ≡ thrice (graded_iterations crew.n crew.t (number_of span)) }
 {
-    3 * graded_iterations(crew.units(), crew.faulty(), span.number())
+    3 * graded_iterations(crew.units(), crew.faulty(), span)
 }
 
 impl Graded {
@@ -38,7 +38,7 @@ impl Graded {
     {
         let crew = self.grading.crew();
         let slots = graded_positions(&self.grading);
-        let list = UnitList::new(&slots[..crew.units()], self.span.number(), crew.faulty());
+        let list = UnitList::new(&slots[..crew.units()], self.span, crew.faulty());
         self.grading.again(Position::nearest(list.graded_step()))
     }
 
@@ -48,11 +48,7 @@ impl Graded {
         ensures value { result ≡ graded_iterations crew.n crew.t (span_of span) }
         ensures converges { GradedConverges }
     {
-        graded_iterations(
-            crew.units(),
-            crew.faulty(),
-            Position::nearest(span).number(),
-        )
+        graded_iterations(crew.units(), crew.faulty(), Position::nearest(span))
     }
 }
 

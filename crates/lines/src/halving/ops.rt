@@ -27,7 +27,7 @@ impl Halving {
         let slots = heard(inbox);
         let list = UnitList::new(
             &slots[..self.crew.units()],
-            self.span.number(),
+            self.span,
             self.crew.faulty(),
         );
         Position::nearest(list.halving_step())
@@ -55,16 +55,16 @@ impl Line for Halving {
             crew,
             span,
             own: Position::within(position, span),
-            left: halving_rounds(span.number()),
+            left: halving_rounds(span),
         }
     }
 
     fn count(_crew: Crew, span: usize) -> usize {
-        halving_rounds(Position::nearest(span).number())
+        halving_rounds(Position::nearest(span))
     }
 
     fn rounds(&self) -> usize {
-        halving_rounds(self.span.number())
+        halving_rounds(self.span)
     }
 
     fn frame(&self) -> Frame {
