@@ -35,17 +35,15 @@ struct Spread {
 impl Spread {
     // After an iteration in which the lists differ at `k` units.
     #[tactic(auto, using(crate::proofs::Iterations::ceil_is))]
-    fn after(self, k: usize) -> Spread
+    fn after(mut self, k: usize) -> Spread
         requires { k ≤ self.f }
         ensures m { result.m ≡ self.m }
         ensures spread { result.spread ≡ ceil (k * self.spread) self.m }
         ensures f { result.f ≡ self.f - k }
     {
-        Spread {
-            m: self.m,
-            spread: (k * self.spread).div_ceil(self.m),
-            f: self.f - k,
-        }
+        self.spread = (k * self.spread).div_ceil(self.m);
+        self.f -= k;
+        self
     }
 
     // After `r` iterations.
