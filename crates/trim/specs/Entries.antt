@@ -11,4 +11,4 @@ entry_of span (Some p) = cond (nat_le (number_of p) span) (number_of p) 1
 
 -- the list
 abbrev pub entries : UnitList → List ℕ
-entries l = map (entry_of l.span) l.slots.now
+entries l = map (entry_of (number_of l.span)) l.slots.now

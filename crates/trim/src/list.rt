@@ -12,10 +12,8 @@ pub use ops::list_entry;
 #[derive(Clone, Copy)]
 pub struct UnitList<'a> {
     slots: &'a [Option<Position>],
-    span: usize,
+    span: Position,
     t: usize,
     ghost few: { length slots.now ≤ 16 },
     ghost enough: { 3 * t + 1 ≤ length slots.now },
-    ghost some: { 1 ≤ span },
-    ghost short: { span ≤ 2047 },
 }

@@ -1,20 +1,22 @@
 // How many rounds the halving line takes, and how many iterations the graded line.
 ghost use Rattle.std.specs.Prelude.{◌≡◌, ℕ, ◌+◌, ◌-◌, ◌*◌, ◌^◌, ◌<◌, ◌≤◌};
+ghost use Rattle.slot.specs.Positions.{number_of};
 ghost use Rattle.trim.specs.Runs.{Runs};
 ghost use Rattle.trim.specs.Steps.{ceil};
 ghost use Rattle.trim.specs.Iterations.{worst, halving_rounds, iterations, graded_iterations, Least, Worsts};
 
+use slot::Position;
+
 // The rounds of the halving line: the least k with 2 ^ k at least the span less one.
-pub fn halving_rounds(span: usize) -> usize
-    requires some { 1 ≤ span }
-    requires short { span ≤ 2047 }
-    ensures is { result ≡ halving_rounds span }
-    ensures least { Least (λ k. span - 1 ≤ 2 ^ k) result }
+pub fn halving_rounds(span: Position) -> usize
+    ensures is { result ≡ halving_rounds (number_of span) }
+    ensures least { Least (λ k. number_of span - 1 ≤ 2 ^ k) result }
     ensures few { result ≤ 11 }
     ensures worsts { Worsts }
     ensures runs { Runs }
 {
-    (span - 1).next_power_of_two().ilog2() as usize
+    // `ilog2` gives a u32, and `usize` has no `From` of it.
+    (span.number() - 1).next_power_of_two().ilog2() as usize
 }
 
 // The greatest spread before an iteration of the graded line, where `m` entries are left of each list and the lists can
@@ -33,17 +35,15 @@ struct Spread {
 impl Spread {
     // After an iteration in which the lists differ at `k` units.
     #[tactic(auto, using(crate::proofs::Iterations::ceil_is))]
-    fn after(self, k: usize) -> Spread
+    fn after(mut self, k: usize) -> Spread
         requires { k ≤ self.f }
         ensures m { result.m ≡ self.m }
         ensures spread { result.spread ≡ ceil (k * self.spread) self.m }
         ensures f { result.f ≡ self.f - k }
     {
-        Spread {
-            m: self.m,
-            spread: (k * self.spread).div_ceil(self.m),
-            f: self.f - k,
-        }
+        self.spread = (k * self.spread).div_ceil(self.m);
+        self.f -= k;
+        self
     }
 
     // After `r` iterations.
@@ -92,20 +92,18 @@ pub fn worst(m: usize, spread: usize, r: usize, f: usize) -> usize
 
 // The iterations of the graded line: the least number that leaves at most 1 of the span less one.
 #[tactic(auto, using(crate::proofs::Iterations::worsts, crate::proofs::Runs::runs))]
-pub fn graded_iterations(n: usize, t: usize, span: usize) -> usize
+pub fn graded_iterations(n: usize, t: usize, span: Position) -> usize
     requires few { n ≤ 16 }
     requires enough { 3 * t + 1 ≤ n }
-    requires some { 1 ≤ span }
-    requires short { span ≤ 2047 }
-    ensures is { result ≡ graded_iterations n t span }
-    ensures least { Least (λ k. worst (n - 2 * t) (span - 1) k t ≤ 1) result }
+    ensures is { result ≡ graded_iterations n t (number_of span) }
+    ensures least { Least (λ k. worst (n - 2 * t) (number_of span - 1) k t ≤ 1) result }
     ensures most { result ≤ t + 1 }
     ensures worsts { Worsts }
     ensures runs { Runs }
 {
     Spread {
         m: n - 2 * t,
-        spread: span - 1,
+        spread: span.number() - 1,
         f: t,
     }
     .least_from(0)

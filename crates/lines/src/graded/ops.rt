@@ -16,7 +16,8 @@ use std::array;
 use trim::{UnitList, graded_iterations};
 use wire::{Crew, Frame, Inbox};
 
-// What a unit has of each sender after a grading, at the start of an array: the value of grade 1 or 2, or nothing.
+// What a unit has of each sender after a grading, the value of grade 1 or 2, or nothing: at the start of an array, since
+// no heap is used.
 fn graded_positions(grading: &Grading<Position>) -> [Option<Position>; 16]
     ensures { take grading.now.crew.n result ≡ graded_positions grading.now }
 {
@@ -28,7 +29,7 @@ fn graded_positions(grading: &Grading<Position>) -> [Option<Position>; 16]
 fn rounds_for(crew: Crew, span: Position) -> usize
     ensures { result ≡ thrice (graded_iterations crew.n crew.t (number_of span)) }
 {
-    3 * graded_iterations(crew.units(), crew.faulty(), span.number())
+    3 * graded_iterations(crew.units(), crew.faulty(), span)
 }
 
 impl Graded {
@@ -38,21 +39,17 @@ impl Graded {
     {
         let crew = self.grading.crew();
         let slots = graded_positions(&self.grading);
-        let list = UnitList::new(&slots[..crew.units()], self.span.number(), crew.faulty());
+        let list = UnitList::new(&slots[..crew.units()], self.span, crew.faulty());
         self.grading.again(Position::nearest(list.graded_step()))
     }
 
-    // How many iterations a line has that is started with this crew and span.
+    // How many iterations a line has that is started with this crew and span, which stand apart as in `Line::start`.
     #[tactic(auto, using(crate::specs::GradedRuns::converges))]
     pub fn iterations(crew: Crew, span: usize) -> usize
         ensures value { result ≡ graded_iterations crew.n crew.t (span_of span) }
         ensures converges { GradedConverges }
     {
-        graded_iterations(
-            crew.units(),
-            crew.faulty(),
-            Position::nearest(span).number(),
-        )
+        graded_iterations(crew.units(), crew.faulty(), Position::nearest(span))
     }
 }
 
@@ -71,6 +68,7 @@ impl Line for Graded {
 
     ghost capped = { is_capped };
 
+    // Crew and span stand apart in `start` and `count`, as the trait `Line` gives them.
     fn start(crew: Crew, span: usize, position: usize) -> Graded {
         let span = Position::nearest(span);
         let own = Position::within(position, span);

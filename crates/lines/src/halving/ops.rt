@@ -12,7 +12,7 @@ use std::array;
 use trim::{UnitList, halving_rounds};
 use wire::{Crew, Frame, Inbox};
 
-// The position in each sender's frame of one slot.
+// The position in each sender's frame of one slot, at the start of an array, since no heap is used.
 fn heard(inbox: &Inbox) -> [Option<Position>; 16]
     ensures { (n : ℕ) → n ≤ 16 → take n result ≡ heard_positions n (box_of inbox.now) }
 {
@@ -25,11 +25,7 @@ impl Halving {
         ensures { result ≡ position_near (halved self.now (box_of inbox.now)) }
     {
         let slots = heard(inbox);
-        let list = UnitList::new(
-            &slots[..self.crew.units()],
-            self.span.number(),
-            self.crew.faulty(),
-        );
+        let list = UnitList::new(&slots[..self.crew.units()], self.span, self.crew.faulty());
         Position::nearest(list.halving_step())
     }
 }
@@ -49,22 +45,23 @@ impl Line for Halving {
 
     ghost capped = { is_capped };
 
+    // Crew and span stand apart in `start` and `count`, as the trait `Line` gives them.
     fn start(crew: Crew, span: usize, position: usize) -> Halving {
         let span = Position::nearest(span);
         Halving {
             crew,
             span,
             own: Position::within(position, span),
-            left: halving_rounds(span.number()),
+            left: halving_rounds(span),
         }
     }
 
     fn count(_crew: Crew, span: usize) -> usize {
-        halving_rounds(Position::nearest(span).number())
+        halving_rounds(Position::nearest(span))
     }
 
     fn rounds(&self) -> usize {
-        halving_rounds(self.span.number())
+        halving_rounds(self.span)
     }
 
     fn frame(&self) -> Frame {

@@ -1,5 +1,6 @@
 // One step of each of the two line agreements.
 ghost use Rattle.std.specs.Prelude.{◌≡◌, ◌^◌, ◌<◌, ◌≤◌, sum};
+ghost use Rattle.slot.specs.Positions.{number_of};
 ghost use Rattle.trim.specs.Entries.{entries};
 ghost use Rattle.trim.specs.Steps.{Steps};
 ghost use Rattle.trim.specs.Trims.{kept, least, greatest, halving_step, graded_step, Layers};
@@ -50,7 +51,7 @@ impl<'a> UnitList<'a> {
     pub fn halving_step(&self) -> usize
         ensures is { result ≡ halving_step self.now.t (entries self.now) }
         ensures low { 1 ≤ result }
-        ensures high { result ≤ self.now.span }
+        ensures high { result ≤ number_of self.now.span }
         ensures layers { Layers }
         ensures steps { Steps }
     {
@@ -63,7 +64,7 @@ impl<'a> UnitList<'a> {
     pub fn graded_step(&self) -> usize
         ensures is { result ≡ graded_step self.now.t (entries self.now) }
         ensures low { 1 ≤ result }
-        ensures high { result ≤ self.now.span }
+        ensures high { result ≤ number_of self.now.span }
         ensures layers { Layers }
         ensures steps { Steps }
     {
