@@ -2,6 +2,7 @@
 ghost use Rattle.std.specs.Prelude.{◌≡◌, true, [], ◌∷◌};
 ghost use Rattle.label.specs.Signs.{lawful};
 
+mod blank;
 mod ops;
 mod show;
 

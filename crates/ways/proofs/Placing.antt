@@ -1,8 +1,6 @@
 -- What entries and places of the walk say of labels.
-use Rattle.std.proofs.Common.{◌≡◌, ℕ, suc, ◌+◌, ◌-◌, ◌*◌, ◌<◌, ◌≤◌, List, [], ◌∷◌, length, get_or, Some, None, Option, MatchOption, unwrap_or, slice_get, sym, refl, ap, ◌∙◌, subst, ⊎_elim, arith}
-use Rattle.std.specs.Option.{SomeIff}
+use Rattle.std.proofs.Common.{◌≡◌, ℕ, suc, ◌+◌, ◌-◌, ◌*◌, ◌<◌, ◌≤◌, List, [], ◌∷◌, length, get_or, Some, None, Option, MatchOption, sym, refl, ap, ◌∙◌, subst, ⊎_elim, arith}
 use Rattle.std.specs.List.{HoldsAt, AllWithin}
-use Rattle.std.proofs.lemmas.Option.{unwrap_or-slice_get}
 use Rattle.label.specs.declared.label.Label.{Label}
 use Rattle.label.specs.Labels.{zero_label}
 use Rattle.tree.specs.declared.Station.{Station}
@@ -74,9 +72,8 @@ module _ (ps : List Station) (h : Canonical ps) where
             };
       }
 
-  pub entry_told : (place : ℕ) (i : Option ℕ) (o : Option Label) (l root : Label) → SomeIff i (1 ≤ place) (place - 1) → MatchOption i (o ≡ None) (λ k. o ≡ slice_get (walk_labels ps) k) → root ≡ root_label ps → l ≡ unwrap_or o root → l ≡ entry_at ps place
-  entry_told place (Some k) o l root before got is e =
-      e ∙ ap (λ (q : Option Label). unwrap_or q root) got ∙ unwrap_or-slice_get (walk_labels ps) k root ∙ ap (λ (j : ℕ). get_or (walk_labels ps) j root) before.1 ∙ ap (get_or (walk_labels ps) (place - 1)) is
-  entry_told place None o l root before got is e =
-      let z : place - 1 ≡ 0 = omega (arith, before) in
-      e ∙ ap (λ (q : Option Label). unwrap_or q root) got ∙ is ∙ sym (ap (λ (j : ℕ). get_or (walk_labels ps) j (root_label ps)) z ∙ walk_begins.1 (root_label ps))
+  -- the root is the entry at place 0, which the walk lacks
+  pub no_entry : (place : ℕ) (l : Label) → place ≡ 0 → l ≡ root_label ps → l ≡ entry_at ps place
+  no_entry place l none is =
+      let first : place - 1 ≡ 0 = omega (arith, none) in
+      is ∙ sym (ap (λ (j : ℕ). get_or (walk_labels ps) j (root_label ps)) first ∙ walk_begins.1 (root_label ps))

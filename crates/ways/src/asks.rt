@@ -4,7 +4,8 @@ ghost use Rattle.tree.specs.Caves.{Holds, root_label, Root, Above, Height, OneWa
 ghost use Rattle.ways.specs.Calls.{DepthTold, DeepestTold, AtDepthTold, WayTold};
 
 use crate::cave::Cave;
-use crate::listing::Listing;
+use crate::writing::write_to;
+use arrayvec::ArrayVec;
 use label::Label;
 
 impl Cave<'_> {
@@ -78,8 +79,8 @@ impl Cave<'_> {
         ensures only { OneWay }
     {
         let (u, v) = self.find_both(from, to)?;
-        let mut course = Listing::new(from);
+        let mut course = ArrayVec::new();
         self.list_course(u, v, &mut course);
-        Some(course.write_to(out))
+        Some(write_to(&course, out))
     }
 }

@@ -5,6 +5,7 @@ ghost use Rattle.tree.specs.WalkLaws.{WalkLaws};
 ghost use Rattle.ways.specs.Calls.{Placed, entry_at};
 
 use crate::cave::Cave;
+use crate::writing::write_to;
 use label::Label;
 
 impl Cave<'_> {
@@ -16,7 +17,7 @@ impl Cave<'_> {
         ensures behind { drop result out.new ≡ drop result out.old }
         ensures laws { WalkLaws self.now.stations.now (take result out.new) }
     {
-        self.whole_walk().write_to(out)
+        write_to(&self.whole_walk(), out)
     }
 
     // The first place of a station on the walk; one that is not there counts as the root.
@@ -24,16 +25,19 @@ impl Cave<'_> {
         ensures { Placed self.now.stations.now label result }
     {
         let walk = self.whole_walk();
-        let index = walk.as_slice().iter().position(|entry| *entry == label);
+        let index = walk.iter().position(|entry| *entry == label);
         index.map_or(1, |k| k + 1)
     }
 
     // The walk's entry at a place; the root where the walk has no such place.
+    #[tactic(auto, using(crate::proofs::Placing::no_entry))]
     pub fn entry(&self, place: usize) -> Label
         ensures { result ≡ entry_at self.now.stations.now place }
     {
+        let Some(index) = place.checked_sub(1) else {
+            return self.root();
+        };
         let walk = self.whole_walk();
-        let entry = place.checked_sub(1).and_then(|k| walk.get(k));
-        entry.unwrap_or(self.root())
+        walk.get(index).copied().unwrap_or(self.root())
     }
 }

@@ -12,4 +12,4 @@ abbrev pub decreases-station_walk : goal.decreases-station_walk
 decreases-station_walk l = 2 * below (length l.self.now.stations.now) (parent_of l.self.now.stations.now) (depth_of l.self.now.stations.now) l.at
 
 abbrev pub invariant-branch_walk-loop-j : goal.invariant-branch_walk-loop-j
-invariant-branch_walk-loop-j l = StillGives l.self.stations.now l.at (length l.yielded + 1) l.walk l.initial.walk
+invariant-branch_walk-loop-j l = StillGives l.self.stations.now l.at (length l.yielded + 1) l.walk.items l.initial.walk.items

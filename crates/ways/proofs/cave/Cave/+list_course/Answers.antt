@@ -21,7 +21,7 @@ pub push-requires-else-depth_of : goal.push-requires-else-depth_of
 push-requires-else-depth_of t c = (search rules, left_push c.args.self.now.stations.now c.args.self.now.lawful _ _ c.requires.first c.requires.second _ c.requires.room c.if-u-v.false (omega arith))
 
 pub list_course-requires-else-depth_of : goal.list_course-requires-else-depth_of
-list_course-requires-else-depth_of t c = left_turn c.args.self.now.stations.now c.args.self.now.lawful _ _ c.requires.first c.requires.second _ c.requires.room c.if-u-v.false (omega arith) _ c.parent_of-else-depth_of.ensures t _ _ c.decreases c.push-else-depth_of.ensures
+list_course-requires-else-depth_of t c = left_turn c.args.self.now.stations.now c.args.self.now.lawful _ _ c.requires.first c.requires.second _ c.requires.room c.if-u-v.false (omega arith) _ c.parent_of-else-depth_of.ensures t _ _ c.decreases c.push-else-depth_of.ensures.items
 
 pub returns-else-depth_of : goal.returns-else-depth_of
 returns-else-depth_of t c = search (rules, left_listed)
