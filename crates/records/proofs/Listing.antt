@@ -1,8 +1,8 @@
 -- What holds of the records that are read, one after another.
-use Rattle.std.proofs.Common.{◌≡◌, ◌≢◌, ℕ, ◌+◌, ◌<◌, ◌≤◌, List, [], ◌∷◌, ◌++◌, length, get_or, take, set, Some, None, Option, sym, refl, ap, ◌∙◌, subst, ⊎_elim, arith}
+use Rattle.std.proofs.Common.{◌≡◌, ◌≢◌, ℕ, ◌<◌, ◌≤◌, List, [], ◌∷◌, ◌++◌, length, get_or, Some, None, Option, sym, refl, ap, ◌∙◌, subst, ⊎_elim, arith}
 use lib.ListN.{length-map}
 use Rattle.std.proofs.lemmas.Bool.{cases_lt}
-use Rattle.std.proofs.lemmas.List.{map-append, take_more_set, get_or_append_left, get_or_push, length_push, get_or-map, length-take-le}
+use Rattle.std.proofs.lemmas.List.{map-append, get_or_append_left, get_or_push, length_push, get_or-map}
 use Rattle.label.specs.Labels.{zero_label}
 use Rattle.label.specs.declared.label.Label.{Label}
 use Rattle.tree.specs.Records.{Records, label_at, Different, Earlier}
@@ -42,24 +42,13 @@ lawful_push rs r room fresh before w =
           (cases_lt k (length rs));
     }
 
--- a buffer, of which the first n rows are the records rs, has room for one more
-module _ (rows : List Record) (n : ℕ) (r : Record) (rs : Records) (size : length rows ≡ 1024) (few : n ≤ 1024) (is : records_of (take n rows) ≡ rs) (room : length rs.labels < 1024) where
-  same : labels_of (take n rows) ≡ rs.labels
-  same = ap (λ (x : Records). x.labels) is
-
-  pub room_in : n < length rows
-  room_in = omega (arith, ap length same, length-map (take n rows) (λ (x : Record). x.label), length-take-le n rows (omega arith))
-
-  pub lawful_set : seek r.label rs.labels ≡ None → JoinedBefore (length rs.labels) r.joined → Lawful (take n rows) → Lawful (take (n + 1) (set rows n r))
-  lawful_set fresh before w =
-      subst Lawful (sym (take_more_set rows n r room_in))
-      (lawful_push (take n rows) r (omega (arith, room_in, length-take-le n rows (omega arith))) (ap (seek r.label) same ∙ fresh) (subst (λ (ls : List Label). JoinedBefore (length ls) r.joined) (sym same) before) w)
-
-  pub push_set : records_of (take (n + 1) (set rows n r)) ≡ record { labels = rs.labels ++ r.label ∷ []; joins = rs.joins ++ join_of r.joined ∷ [] }
-  push_set =
-      ap records_of (take_more_set rows n r room_in)
-      ∙ (λ i. record { labels = labels_push (take n rows) r i; joins = joins_push (take n rows) r i })
-      ∙ ap (λ (x : Records). record { labels = x.labels ++ r.label ∷ []; joins = x.joins ++ join_of r.joined ∷ [] }) is
+-- the records rs, as a list of rows, and one more row
+pub lawful_more : (rows new : List Record) (r : Record) (rs : Records) → records_of rows ≡ rs → length rs.labels < 1024 → seek r.label rs.labels ≡ None → JoinedBefore (length rs.labels) r.joined → Lawful rows
+    → new ≡ rows ++ r ∷ [] → Lawful new
+lawful_more rows new r rs is room fresh before w e =
+    let same : labels_of rows ≡ rs.labels = ap (λ (x : Records). x.labels) is in
+    subst Lawful (sym e)
+    (lawful_push rows r (omega (arith, ap length same, length-map rows (λ (x : Record). x.label))) (ap (seek r.label) same ∙ fresh) (subst (λ (ls : List Label). JoinedBefore (length ls) r.joined) (sym same) before) w)
 
 -- a record is joined to an earlier one, where 0 stands for none
 pub joined_earlier : (rs : List Record) → Lawful rs → Earlier (joins_of rs)

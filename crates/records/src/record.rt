@@ -9,7 +9,7 @@ use crate::fault::PlanFault;
 use label::Label;
 
 // A station, and the place of the earlier record whose station it is joined to; the first record is joined to none.
-#[derive(Clone, Copy)]
+#[derive(Clone, Copy, Default)]
 pub struct Record {
     pub label: Label,
     pub joined: Option<u16>,
