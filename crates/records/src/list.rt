@@ -27,7 +27,8 @@ impl Model for Records {
 }
 
 impl Records {
-    pub(crate) fn new() -> Records
+    // No record.
+    pub fn new() -> Records
         ensures { result ≡ records_of [] }
     {
         Records {
@@ -37,7 +38,7 @@ impl Records {
 
     // Appends a record with a new label that is joined to an earlier one, or to none where it is the first.
     #[tactic(auto, using(crate::proofs::Listing::lawful_more))]
-    pub(crate) fn push(&mut self, row: Record)
+    pub fn push(&mut self, row: Record)
         requires room { length self.old.labels < 1024 }
         requires fresh { seek row.label self.old.labels ≡ None }
         requires joined { JoinedBefore (length self.old.labels) row.joined }
@@ -46,6 +47,7 @@ impl Records {
         self.rows.push(row);
     }
 
+    // The records, in the file's order.
     pub fn as_slice(&self) -> &[Record]
         ensures value { records_of result.now ≡ self.now }
         ensures lawful { Lawful result.now }

@@ -62,7 +62,7 @@ fn file_of(records: &[&[u8; 16]; 6]) -> [u8; 512] {
 fn is_walk(rt: &impl Abort, plan: &Plan, walk: &[&[u8]]) -> Result<(), Fail> {
     for (text, place) in walk.iter().zip(1usize..) {
         let expected = Label::typed(text)?;
-        assert!(rt; plan.entry(place) == expected);
+        assert!(rt; plan.entry(place).same(expected));
     }
     Ok(())
 }
@@ -77,7 +77,7 @@ fn number_of(answer: Result<(), PlanFault>) -> Option<u8> {
 fn new_plan_holds_zero(rt: HostRuntime) -> Result<(), Fail> {
     let plan = Plan::new(rt.alloc())?;
     assert!(rt; plan.stations().len() == 1);
-    assert!(rt; plan.root() == Label::typed(b"0")?);
+    assert!(rt; plan.root().same(Label::typed(b"0")?));
     assert!(rt; plan.height() == 1);
     Ok(())
 }

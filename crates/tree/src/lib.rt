@@ -1,9 +1,6 @@
 // A plan's stations as a tree: what is known of them, and the mathematics of ways and walks on them.
 #![tactic(auto)]
 
-ghost use Rattle.std.specs.Prelude.{◌≡◌};
-ghost use Rattle.label.specs.Labels.{zero_label};
-
 use label::Label;
 
 // A station of a plan: its label, the index of the next station towards the root, and its depth. The stations of a
@@ -14,14 +11,4 @@ pub struct Station {
     pub label: Label,
     pub parent: u16,
     pub depth: u16,
-}
-
-// The label `0`, that of the one station of a plan made without a file.
-pub fn zero() -> Label
-    ensures { result ≡ zero_label }
-{
-    match Label::read(b"0       ") {
-        Some(label) => label,
-        None => unreachable(),
-    }
 }

@@ -8,9 +8,10 @@ ghost use Rattle.plan.specs.Loads.{Loaded, Reads};
 
 use super::Plan;
 use chart::chart;
+use label::Label;
 use records::{PlanFault, read};
 use std::alloc::{AllocError, Global};
-use tree::{Station, zero};
+use tree::Station;
 
 impl Plan {
     // The plan made without a file: the station `0` alone. Its only refusal is want of memory.
@@ -19,7 +20,7 @@ impl Plan {
     {
         let mut stations = Vec::with_capacity(heap, 1024)?;
         stations.push_reserved(Station {
-            label: zero(),
+            label: Label::default(),
             parent: 0,
             depth: 1,
         });
