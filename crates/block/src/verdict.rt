@@ -1,5 +1,5 @@
 // Whether a block is good, and how many records it has. A block is a slice of 512 bytes and no array, since it is a part
-// of a file, which its callers cut out by an index.
+// of a file, as `chunks_exact` gives it.
 ghost use Rattle.std.specs.Prelude.{◌≡◌, ◌==◌, ◌+◌, ◌<◌, ◌≤◌, length};
 ghost use Rattle.std.specs.List.{list_all};
 ghost use Rattle.block.specs.Blocks.{check_of, check_sum, word, blank_from, block_verdict};
@@ -12,7 +12,7 @@ pub fn check_sum(bytes: &[u8]) -> u16
     requires { length bytes.now ≤ 510 }
     ensures { result ≡ check_of bytes.now }
 {
-    // A loop: in a chain the closure would have to know a bound of each place. A place is below 510, so its cast loses nothing.
+    // A loop: in a chain the closure would have to know a bound of each place. A place is below 510 and the rest below 65,536, so their casts lose nothing.
     let mut sum = 0u32;
     for (k, byte) in bytes.iter().enumerate() {
         sum += (k as u32 + 1) * u32::from(*byte);

@@ -1,4 +1,4 @@
-// A label: 1 to 8 sign bytes, then blanks. Eight fields and no array, so that an `Option` may hold it.
+// A label: 1 to 8 sign bytes, then blanks. Eight fields and no array, the form that the project sets for what an `Option` holds.
 ghost use Rattle.std.specs.Prelude.{◌≡◌, true, [], ◌∷◌};
 ghost use Rattle.label.specs.Signs.{lawful};
 

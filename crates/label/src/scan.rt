@@ -16,6 +16,7 @@ impl Scan {
     pub fn after(self, byte: u8) -> Scan
         ensures { result ≡ next self byte }
     {
+        // The guards below read these two flags: that is the form that the project sets for sign bytes.
         let (blanks_begun, signs_begun) = match self {
             Scan::Start => (false, false),
             Scan::Signs => (false, true),

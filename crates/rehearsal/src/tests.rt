@@ -29,7 +29,7 @@ const WALK: [&[u8]; 11] = [
     b"A9", b"ENT", b"C1", b"C2", b"C1", b"C3", b"D1", b"C3", b"C1", b"ENT", b"A9",
 ];
 
-// The sum of each byte times its place, counted from 1, modulo 65,536.
+// The sum of each byte times its place, counted from 1, modulo 65,536: computed anew, to test what the library computes.
 fn check_of(bytes: &[u8]) -> u16 {
     bytes.iter().zip(1u16..).fold(0, |sum, (byte, place)| {
         sum.wrapping_add(place.wrapping_mul(u16::from(*byte)))

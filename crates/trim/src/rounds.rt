@@ -79,7 +79,7 @@ impl Spread {
 }
 
 // The greatest spread that `r` iterations can leave of a spread, where `m` entries are left of each list and the lists
-// can differ at `f` units, at each of them in one iteration.
+// can differ at `f` units, at each of them in one iteration. The four numbers stand apart for who calls it; `Spread` has three of them.
 pub fn worst(m: usize, spread: usize, r: usize, f: usize) -> usize
     requires some { 1 ≤ m }
     requires few { m ≤ 16 }
@@ -90,7 +90,8 @@ pub fn worst(m: usize, spread: usize, r: usize, f: usize) -> usize
     Spread { m, spread, f }.worst(r)
 }
 
-// The iterations of the graded line: the least number that leaves at most 1 of the span less one.
+// The iterations of the graded line: the least number that leaves at most 1 of the span less one. It takes n and t and no `Crew`,
+// since it asks for no own number.
 #[tactic(auto, using(crate::proofs::Iterations::worsts, crate::proofs::Runs::runs))]
 pub fn graded_iterations(n: usize, t: usize, span: Position) -> usize
     requires few { n ≤ 16 }

@@ -5,7 +5,8 @@ mod ops;
 
 pub use ops::write_slot;
 
-// The handhelds have no heap, and frames are copied: the bytes lie in a buffer of fixed size, with their count beside it.
+// A frame takes no heap, and is copied with the table that holds it: the bytes lie in a buffer of fixed size, with their count
+// beside it.
 #[derive(Clone, Copy)]
 pub struct Frame {
     bytes: [u8; 128],

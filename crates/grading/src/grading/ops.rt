@@ -12,7 +12,7 @@ use crate::stage::Stage;
 use slot::Kind;
 use wire::{Crew, Frame, Inbox};
 
-// The grade of sender `s` by the round-3 frames in the table.
+// The grade of sender `s` by the round-3 frames that came.
 pub fn grade_sender<K: Kind>(crew: Crew, inbox: &Inbox, s: usize) -> Grade<K>
     ensures value { result ≡ grade_by K.coding crew.n crew.t (box_of inbox.now) s }
     ensures counted { GradedBy K.coding crew.n crew.t (column K.coding crew.n s (box_of inbox.now)) result }

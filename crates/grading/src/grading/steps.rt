@@ -44,7 +44,7 @@ impl<K: Kind> Grading<K> {
         }
     }
 
-    // The state after a round.
+    // The state after a round, apart from `step`: that one replaces the value behind a `&mut`, whose laws then are for the search alone.
     pub(super) fn next(&self, inbox: &Inbox) -> Grading<K>
         ensures { result ≡ after K.coding self.now (box_of inbox.now) }
     {

@@ -73,15 +73,15 @@ impl Label {
         Label::read(&bytes).ok_or(TextFault::NoLabel)
     }
 
-    // Whether two labels are the same: what the derived `==` only equates with the eight fields, this contract says of labels.
+    // Whether two labels are the same. The derived `==` is proved field by field; this contract speaks of labels.
     pub fn same(self, other: Label) -> bool
         ensures { Decides result (self ≡ other) }
     {
         self == other
     }
 
-    // The order byte by byte, which the derived `cmp` only equates with the eight fields. The numbers that `key` gives are ordered as
-    // labels are, and tell all labels apart.
+    // The order byte by byte. The derived `cmp` is proved field by field; this contract speaks of bytes, and of the numbers that
+    // `key` gives: they are ordered as labels are, and tell all labels apart.
     #[tactic(auto, using(crate::proofs::Ordering::order_bytes, crate::proofs::Keys::keys_follow))]
     pub fn order(self, other: Label) -> Ordering
         ensures value { result ≡ bytes_order (bytes_of self) (bytes_of other) }

@@ -1,4 +1,5 @@
-// Stations and ways of a plan.
+// Stations and ways of a plan. Each call is one on its cave: the work and its proofs lie in a crate below, so that a plan's contracts
+// are read, and its edits are tried, in a small one.
 ghost use Rattle.std.specs.Prelude.{◌≡◌, length, Decides};
 ghost use Rattle.tree.specs.Caves.{Holds, root_label, Root, Above, Height, OneWay};
 ghost use Rattle.ways.specs.Calls.{DepthTold, DeepestTold, AtDepthTold, WayTold};

@@ -5,6 +5,7 @@ ghost use Rattle.wire.specs.Frames.{framed, box_of};
 ghost use Rattle.wire.specs.Slots.{slot_from};
 
 use super::Inbox;
+use super::votes::slot_in;
 use crate::frame::Frame;
 use slot::Kind;
 
@@ -30,6 +31,6 @@ impl Inbox {
     pub fn slot<K: Kind>(&self, sender: usize, slots: usize, s: usize) -> Option<K>
         ensures { result ≡ slot_from K.coding slots s (from (box_of self.now) sender) }
     {
-        self.frames.get(sender)?.as_ref()?.slot(slots, s)
+        slot_in(self.frames.get(sender)?, slots, s)
     }
 }

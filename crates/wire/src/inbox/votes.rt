@@ -9,7 +9,7 @@ use crate::frame::Frame;
 use slot::Kind;
 
 // The value in slot `s` of a frame of so many slots; missing where nothing came.
-fn slot_in<K: Kind>(frame: &Option<Frame>, slots: usize, s: usize) -> Option<K>
+pub(super) fn slot_in<K: Kind>(frame: &Option<Frame>, slots: usize, s: usize) -> Option<K>
     ensures { result ≡ slot_from K.coding slots s (sent frame.now) }
 {
     frame.as_ref()?.slot(slots, s)
