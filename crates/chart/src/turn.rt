@@ -48,6 +48,7 @@ pub(crate) fn turn(records: &Records, root: u16) -> [Option<Link>; 1024]
     ensures { Settled records.now.joins root (ups_of result) (depths_of result) }
 {
     let mut links = reverse(records, root);
+    // The links are read and written while the rows are gone over, so they are found by index.
     for (k, row) in records.as_slice().iter().enumerate() {
         if links[k].is_none() {
             links[k] = link_to(row.joined, &links);

@@ -72,7 +72,7 @@ impl Cave<'_> {
     }
 
     // Writes the stations on the way between two, from the first to the second, and gives their count; what stands
-    // behind them in the buffer is kept.
+    // behind them in the buffer is kept. The buffer is the caller's, since no call here takes memory.
     #[tactic(auto, using(tree::proofs::Named::one_way, crate::proofs::Answering::course_fits))]
     pub fn way(&self, from: Label, to: Label, out: &mut [Label; 1024]) -> Option<usize>
         ensures written { WayTold self.now.stations.now from to out.old out.new result }

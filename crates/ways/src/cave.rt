@@ -23,6 +23,7 @@ impl<'a> Cave<'a> {
     }
 }
 
+// The fields of a station. An index is below the length of one cave, which no type of an index can say, so each call asks for it.
 impl Cave<'_> {
     pub(crate) fn label_of(&self, at: usize) -> Label
         requires { at < length self.now.stations.now }

@@ -9,7 +9,8 @@ use crate::writing::write_to;
 use label::Label;
 
 impl Cave<'_> {
-    // Writes the walk, and gives its length; what stands behind it in the buffer is kept.
+    // Writes the walk, and gives its length; what stands behind it in the buffer is kept. The buffer is the caller's, since no call
+    // here takes memory.
     #[tactic(auto, using(crate::proofs::Placing::walk_told, crate::proofs::Placing::walk_counted))]
     pub fn walk(&self, out: &mut [Label; 2047]) -> usize
         ensures count { result + 1 ≡ 2 * length self.now.stations.now }
