@@ -33,6 +33,14 @@ pub struct Play<'a> {
     pub positions: &'a str,
 }
 
+// What one unit of a line agreement begins with: the agreement, the unit's own number, and its position.
+#[derive(Clone, Copy)]
+pub struct LineWords {
+    pub agreement: Agreement,
+    pub own: usize,
+    pub position: usize,
+}
+
 // A command and its words: names of plans and lines, labels as typed, and bytes in hex; numbers; and the frames of a round, a word
 // each.
 #[derive(Clone, Copy)]
@@ -72,9 +80,7 @@ pub enum Command<'a> {
     },
     NewLine {
         name: &'a str,
-        agreement: Agreement,
-        own: usize,
-        position: usize,
+        words: LineWords,
     },
     LineFrame {
         name: &'a str,
@@ -272,13 +278,15 @@ fn line_command(mut words: Words<'_>) -> Result<Command<'_>, LineFault> {
     let position = words.last()?.parse()?;
     Ok(Command::NewLine {
         name,
-        agreement: Agreement {
-            kind,
-            units,
-            faulty,
-            span,
+        words: LineWords {
+            agreement: Agreement {
+                kind,
+                units,
+                faulty,
+                span,
+            },
+            own,
+            position,
         },
-        own,
-        position,
     })
 }

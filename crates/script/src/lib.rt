@@ -5,6 +5,8 @@ mod command;
 mod hex;
 mod sentence;
 
-pub use command::{Agreement, Command, LineFault, LineKind, Play, ValueKind, parse, parse_play};
+pub use command::{
+    Agreement, Command, LineFault, LineKind, LineWords, Play, ValueKind, parse, parse_play,
+};
 pub use hex::{Hex, HexFault, read_hex};
 pub use sentence::Sentence;

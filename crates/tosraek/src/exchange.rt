@@ -1,5 +1,5 @@
-// One whole exchange of grading: four units, at most one of them faulty. Units 0 to 2 are honest, and unit 3 tells two
-// stories.
+// One whole exchange of grading: four units, at most one of them faulty. Units 0 to 2 are honest, and unit 3 sends
+// different values to different units.
 use crate::inbox::inbox_of;
 use grading::Grading;
 use itertools::Itertools;
@@ -12,14 +12,14 @@ const UNITS: usize = 4;
 
 const FAULTY: usize = 1;
 
-const TELLER: usize = 3;
+const FAULTY_UNIT: usize = 3;
 
 const ROUNDS: usize = 3;
 
-// The value of units 0 and 2, and that of unit 1.
-const FIVE: usize = 5;
+// The value of units 0 and 2, and that of unit 1; unit 3 sends either of the two, or none.
+const COMMON_VALUE: usize = 5;
 
-const NINE: usize = 9;
+const OTHER_VALUE: usize = 9;
 
 // A slot as it is shown: its value, or `-` where it is missing.
 #[derive(Clone, Copy)]
@@ -40,18 +40,18 @@ fn slots_in(round: usize) -> usize {
 }
 
 // What unit 3 tells a receiver of its own value. Round and receiver are two numbers: a struct of them would only be taken apart here.
-fn story(round: usize, receiver: usize) -> Option<Position> {
+fn faulty_value(round: usize, receiver: usize) -> Option<Position> {
     match (round, receiver) {
         (3, 1) => None,
-        (1, 2) | (2, 1) | (2, 2) => Some(Position::nearest(NINE)),
-        _ => Some(Position::nearest(FIVE)),
+        (1, 2) | (2, 1) | (2, 2) => Some(Position::nearest(OTHER_VALUE)),
+        _ => Some(Position::nearest(COMMON_VALUE)),
     }
 }
 
-// The frame that unit 3 sends a receiver: one slot in round 1, else four, of which the last has its story.
+// The frame that unit 3 sends a receiver: one slot in round 1, else four, of which the last has the value that it tells.
 fn faulty_frame(round: usize, receiver: usize) -> Frame {
     let mut slots = [0u8; 8];
-    let told = story(round, receiver);
+    let told = faulty_value(round, receiver);
     if round == 1 {
         write_slot(told, &mut slots[..2]);
         Frame::new(&slots[..2])
@@ -64,7 +64,7 @@ fn faulty_frame(round: usize, receiver: usize) -> Frame {
 // What came to a receiver in a round.
 fn taken(sent: &[Frame; 3], round: usize, receiver: usize) -> Inbox {
     let mut inbox = inbox_of(sent);
-    inbox.put(TELLER, faulty_frame(round, receiver).bytes());
+    inbox.put(FAULTY_UNIT, faulty_frame(round, receiver).bytes());
     inbox
 }
 
@@ -82,13 +82,15 @@ fn show_taken(rt: &HostRuntime, round: usize, receiver: usize, inbox: &Inbox) ->
 
 // How many of the frames carry a position in the slot of unit 3.
 fn tally_of(inbox: &Inbox, number: usize) -> usize {
-    inbox.tally(UNITS, TELLER, Position::nearest(number))
+    inbox.tally(UNITS, FAULTY_UNIT, Position::nearest(number))
 }
 
 fn show_counts(rt: &HostRuntime, receiver: usize, inbox: &Inbox) -> io::Result<()> {
-    let fives = tally_of(inbox, FIVE);
-    let nines = tally_of(inbox, NINE);
-    println!(rt; "  unit {receiver} counts of unit {TELLER}: {FIVE} in {fives}, {NINE} in {nines}")
+    let common = tally_of(inbox, COMMON_VALUE);
+    let other = tally_of(inbox, OTHER_VALUE);
+    println!(rt;
+        "  unit {receiver} counts of unit {FAULTY_UNIT}: {COMMON_VALUE} in {common}, {OTHER_VALUE} in {other}"
+    )
 }
 
 fn show_grades(rt: &HostRuntime, receiver: usize, unit: &Grading<Position>) -> io::Result<()> {
@@ -123,7 +125,11 @@ fn unit(own: usize, value: usize) -> Result<Grading<Position>, CrewFault> {
 }
 
 fn honest_units() -> Result<[Grading<Position>; 3], CrewFault> {
-    Ok([unit(0, FIVE)?, unit(1, NINE)?, unit(2, FIVE)?])
+    Ok([
+        unit(0, COMMON_VALUE)?,
+        unit(1, OTHER_VALUE)?,
+        unit(2, COMMON_VALUE)?,
+    ])
 }
 
 // Shows three rounds, what each honest unit took in them, and the grades.

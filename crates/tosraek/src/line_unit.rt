@@ -2,7 +2,7 @@
 use either::{Either, Left, Right, for_both};
 use line::{Line, follow};
 use lines::{Graded, Halving};
-use script::{Agreement, LineKind};
+use script::{LineKind, LineWords};
 use wire::{Crew, CrewFault, Frame, Inbox};
 
 // The units of a script lie in one map, so each holds either of the two kinds of line.
@@ -13,11 +13,12 @@ pub struct LineUnit {
 }
 
 impl LineUnit {
-    pub fn start(agreement: Agreement, own: usize, position: usize) -> Result<LineUnit, CrewFault> {
-        let crew = Crew::new(agreement.units, agreement.faulty, own)?;
+    pub fn start(words: LineWords) -> Result<LineUnit, CrewFault> {
+        let agreement = words.agreement;
+        let crew = Crew::new(agreement.units, agreement.faulty, words.own)?;
         let line = match agreement.kind {
-            LineKind::Halving => Left(Halving::start(crew, agreement.span, position)),
-            LineKind::Graded => Right(Graded::start(crew, agreement.span, position)),
+            LineKind::Halving => Left(Halving::start(crew, agreement.span, words.position)),
+            LineKind::Graded => Right(Graded::start(crew, agreement.span, words.position)),
         };
         Ok(LineUnit { crew, line })
     }

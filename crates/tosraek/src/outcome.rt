@@ -70,6 +70,7 @@ impl fmt::Display for NoAnswer {
     fn fmt<W: fmt::Write>(&self, f: &mut fmt::Formatter<W>) -> fmt::Result {
         match self {
             NoAnswer::Label(fault) => write!(f, "refusal {}", fault.diagnostic().number),
+            // No library fault has the number 13: it is the script's answer for a station that the plan lacks.
             NoAnswer::NoStation => f.write_str("refusal 13"),
             NoAnswer::Plan(fault) => write!(f, "{}", fault.diagnostic()),
             NoAnswer::Crew(fault) => write!(f, "{}", fault.diagnostic()),

@@ -69,7 +69,7 @@ fn positions_text<L: Line>(heap: Global, units: &[L]) -> Result<String, AllocErr
 }
 
 // The lines to be shown: the positions of the honest units at the start and after each round.
-fn story<L: Line>(heap: Global, play: Play<'_>) -> Result<String, NoAnswer> {
+fn shown_rounds<L: Line>(heap: Global, play: Play<'_>) -> Result<String, NoAnswer> {
     let mut units: Vec<L> = honest_units(heap, play)?;
     let rounds = units.first().map_or(0, |unit| unit.rounds());
     let start = positions_text(heap, units.as_slice())?;
@@ -82,18 +82,18 @@ fn story<L: Line>(heap: Global, play: Play<'_>) -> Result<String, NoAnswer> {
     Ok(shown)
 }
 
-fn story_of(heap: Global, text: &str) -> Result<String, NoAnswer> {
+fn shown_play(heap: Global, text: &str) -> Result<String, NoAnswer> {
     let play = parse_play(text)?;
     match play.agreement.kind {
-        LineKind::Halving => story::<Halving>(heap, play),
-        LineKind::Graded => story::<Graded>(heap, play),
+        LineKind::Halving => shown_rounds::<Halving>(heap, play),
+        LineKind::Graded => shown_rounds::<Graded>(heap, play),
     }
 }
 
 // Plays the agreement that a text names, and shows the honest units' positions in each round.
 pub fn show_play(rt: &HostRuntime, text: &str) -> io::Result<()> {
     println!(rt; "line {text}")?;
-    match story_of(rt.alloc(), text) {
+    match shown_play(rt.alloc(), text) {
         Ok(shown) => rt.println(shown),
         Err(other) => rt.println(other),
     }

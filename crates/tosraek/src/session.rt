@@ -7,7 +7,7 @@ use grading::grade_sender;
 use itertools::Itertools;
 use label::Label;
 use plan::Plan;
-use script::{Agreement, Command, Hex, ValueKind, parse, read_hex};
+use script::{Command, Hex, LineWords, ValueKind, parse, read_hex};
 use slot::{Kind, Position};
 use std::alloc::{AllocError, Global};
 use std::collections::BTreeMap;
@@ -73,12 +73,7 @@ impl Session {
                 faulty,
                 frames,
             } => self.grade(kind, units, faulty, frames),
-            Command::NewLine {
-                name,
-                agreement,
-                own,
-                position,
-            } => self.new_line(name, agreement, own, position),
+            Command::NewLine { name, words } => self.new_line(name, words),
             Command::LineFrame { name } => self.line_frame(name),
             Command::LineStep { name, frames } => self.line_step(name, frames),
             Command::LineResult { name } => self.line_result(name),
@@ -162,14 +157,8 @@ impl Session {
         self.lines.get(name).ok_or(NoAnswer::UnknownUnit)
     }
 
-    fn new_line(
-        &mut self,
-        name: &str,
-        agreement: Agreement,
-        own: usize,
-        position: usize,
-    ) -> Result<String, NoAnswer> {
-        let unit = LineUnit::start(agreement, own, position)?;
+    fn new_line(&mut self, name: &str, words: LineWords) -> Result<String, NoAnswer> {
+        let unit = LineUnit::start(words)?;
         let key = String::from_str(self.heap, name)?;
         self.lines.insert(key, unit)?;
         Ok(unit.rounds().to_string(self.heap)?)
