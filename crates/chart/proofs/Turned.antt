@@ -1,5 +1,5 @@
 -- The lists of next stations and depths, as links are written.
-use Rattle.std.proofs.Common.{◌≡◌, ◌≢◌, ℕ, ◌+◌, ◌<◌, ◌≤◌, true, false, List, length, get_or, set, replicate, is_some, Some, None, Option, sym, refl, ap, ◌∙◌, subst, inl, inr, ⊎_elim, arith, length-set}
+use Rattle.std.proofs.Common.{◌≡◌, ℕ, ◌+◌, ◌<◌, ◌≤◌, true, false, List, length, get_or, set, replicate, is_some, Some, None, Option, sym, refl, ap, ◌∙◌, subst, inl, inr, ⊎_elim, arith, length-set}
 use lib.ListN.{length-map}
 use Rattle.std.proofs.lemmas.List.{get_or-map, map-set, get_or-replicate, get_or_default, length-replicate, get_or-set_other, get_or-set_same}
 use Rattle.std.proofs.lemmas.Bool.{cases_eq}
@@ -96,12 +96,6 @@ named_at rs k d o w h e = subst (JoinedBefore k) (ap (λ (x : Record). x.joined)
 pub before_is : (rs : List Record) (k : ℕ) (d : Record) (j : ℕ) → Lawful rs → k < length rs → (get_or rs k d).joined ≡ Some j → j < k
 before_is rs k d j w h e = named_at rs k d (Some j) w h e
 
-pub first_is : (rs : List Record) (k : ℕ) (d : Record) → Lawful rs → k < length rs → (get_or rs k d).joined ≡ None → k ≡ 0
-first_is rs k d w h e = named_at rs k d None w h e
-
-pub joined_some : (rs : List Record) (k : ℕ) (r : Record) → Lawful rs → 0 < k → k < length rs → r ≡ get_or rs k r → r.joined ≢ None
-joined_some rs k r w some h e n = let z : k ≡ 0 = first_is rs k r w h (sym (ap (λ (x : Record). x.joined) e) ∙ n) in omega arith
-
 -- the way to the first record -------------------------------------------------------------------
 
 pub turned_first : (js : List ℕ) (root : ℕ) (l : Link) → root < length js → length js ≤ 1024 → l.up ≡ root → l.depth ≡ 1
@@ -121,17 +115,6 @@ turned_next js root ls cur next level l few long lr some le is lt at low eu ed t
     (subst (λ (n : ℕ). Turned js root (set (ups_of ls) n cur) (set (depths_of ls) n (level + 1)) n) is (turned_more js root (ups_of ls) (depths_of ls) (omega arith) (omega arith) cur level lr some le (omega arith) at low t))
 
 -- the other stations ----------------------------------------------------------------------------
-
-pub settling_first : (js : List ℕ) (root : ℕ) (ups ds : List ℕ) → Turned js root ups ds 0 → Settling js root ups ds 0
-settling_first js root ups ds t =
-    record {
-      top = t.top;
-      own = t.own;
-      low = λ x h. omega (arith, t.low x h);
-      done = λ x h. absurd (omega arith);
-      linked = t.linked;
-      legs = λ x h l p. inl (t.turned x h l p);
-    }
 
 pub settling_all : (js : List ℕ) (root : ℕ) (ups ds : List ℕ) (k : ℕ) → length js ≤ k → Settling js root ups ds k → Settled js root ups ds
 settling_all js root ups ds k h s =

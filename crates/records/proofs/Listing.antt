@@ -14,9 +14,6 @@ use Rattle.records.proofs.Seeks.{seek_none}
 pub labels_push : (rs : List Record) (r : Record) → labels_of (rs ++ r ∷ []) ≡ labels_of rs ++ r.label ∷ []
 labels_push rs r = map-append (λ (x : Record). x.label) rs (r ∷ [])
 
-pub joins_push : (rs : List Record) (r : Record) → joins_of (rs ++ r ∷ []) ≡ joins_of rs ++ join_of r.joined ∷ []
-joins_push rs r = map-append (λ (x : Record). join_of x.joined) rs (r ∷ [])
-
 pub different_push : (ls : List Label) (l : Label) → Different ls → ((i : ℕ) → i < length ls → label_at ls i ≢ l) → Different (ls ++ l ∷ [])
 different_push ls l d fresh a b h m e =
     let n = length_push ls l in

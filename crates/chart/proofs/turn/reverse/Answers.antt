@@ -1,9 +1,7 @@
-use Rattle.std.proofs.Common.{◌<◌, replicate, None, Option, ◌∙◌, subst, refl, arith, length-set}
+use Rattle.std.proofs.Common.{◌<◌, replicate, None, Option, ◌∙◌, refl, arith, length-set}
 use Rattle.std.proofs.lemmas.List.{length-replicate}
 use Rattle.chart.specs.declared.link.Link.{Link}
-use Rattle.tree.specs.Turned.{Turned}
-use Rattle.chart.specs.Links.{ups_of, depths_of}
-use Rattle.chart.proofs.Turned.{says, join_is, before_is, first_is, first_long, depth_set, turned_first, turned_next}
+use Rattle.chart.proofs.Turned.{says, join_is, before_is, first_long, depth_set, turned_first, turned_next}
 use Rattle.chart.proofs.turn.reverse.Goals as goal
 
 pub loop-here-init : goal.loop-here-init
@@ -30,10 +28,3 @@ loop-here-preserved c =
       at = depth_set c.loop-here.links c.in-Some.below _ (omega arith);
       deep = omega arith;
     }
-
-pub returns : goal.returns
-returns c =
-    let n = says c.as_slice-rows.result.now c.args.records.now c.as_slice-rows.ensures.value c.as_slice-rows.ensures.lawful in
-    let low = c.loop-here.invariant.low in
-    let z = first_is c.as_slice-rows.result.now c.loop-here.here _ c.as_slice-rows.ensures.lawful (omega arith) c.in_default.is in
-    subst (Turned c.args.records.now.joins c.args.root (ups_of c.loop-here.links) (depths_of c.loop-here.links)) z c.loop-here.invariant.turned

@@ -1,25 +1,8 @@
-use Rattle.std.proofs.Common.{rules, ◌≡◌, ◌+◌, ◌<◌, ◌≤◌, true, false, not, ℕ, get_or, is_some, sym, ap, ◌∙◌, subst, arith, length-set}
+use Rattle.std.proofs.Common.{◌≡◌, ◌+◌, true, false, not, ℕ, get_or, is_some, sym, ap, ◌∙◌, arith, length-set}
 use Rattle.chart.specs.Links.{depths_of}
-use Rattle.chart.proofs.Turned.{says, row_join, joined_some, settling_first, settling_all, settled_kept, settled_more, not_first, first_kept}
+use Rattle.chart.proofs.Turned.{says, row_join, settling_all, settled_kept, settled_more, not_first, first_kept}
 use Rattle.chart.proofs.turn.turn.Goals as goal
 use Rattle.chart.proofs.turn.turn.Goals.{then-is_none, else-is_none}
-
-pub loop-k-init : goal.loop-k-init
-loop-k-init c = record { long = search rules; first = c.reverse-links.ensures.here; settling = settling_first _ _ _ _ c.reverse-links.ensures }
-
-pub link_to-requires : goal.link_to-requires
-link_to-requires c =
-    let i = c.loop-k.invariant in
-    let n = says c.as_slice-row-items.result.now c.args.records.now c.as_slice-row-items.ensures.value c.as_slice-row-items.ensures.lawful in
-    let none : is_some c.index-links-k.result ≡ false = ap is_some c.index-links-k.is ∙ c.if-is_none.ensures in
-    let some = not_first c.args.records.now.joins c.args.root c.loop-k.links c.loop-k.k (omega arith) i.long (omega arith) i.first i.settling c.index-links-k.result c.index-links-k.is none in
-    let is = row_join c.as_slice-row-items.result.now c.args.records.now n c.loop-k.k c.row-item.result (omega arith) c.row-item.is in
-    let lt = n.earlier c.loop-k.k some (omega arith) in
-    record {
-      some = joined_some c.as_slice-row-items.result.now c.loop-k.k c.row-item.result c.as_slice-row-items.ensures.lawful some (omega arith) c.row-item.is;
-      linked = subst (λ (j : ℕ). 0 < get_or (depths_of c.loop-k.links) j 0) is (i.settling.done _ lt);
-      low = subst (λ (j : ℕ). get_or (depths_of c.loop-k.links) j 0 ≤ 2048) is (omega (arith, i.settling.low (get_or c.args.records.now.joins c.loop-k.k 0) (omega (arith, lt))));
-    }
 
 pub loop-k-preserved : goal.loop-k-preserved
 loop-k-preserved c =
