@@ -1,7 +1,7 @@
 // A line of a script as a command.
-use std::fmt;
 use std::num::ParseIntError;
 use std::str::FromStr;
+use thiserror::Error;
 
 // A kind of value that a slot holds.
 #[derive(Clone, Copy)]
@@ -95,30 +95,22 @@ pub enum Command<'a> {
 }
 
 // Why a line is no command.
-#[derive(Clone, Copy, PartialEq, Eq, Debug)]
+#[derive(Clone, Copy, PartialEq, Eq, Debug, Error)]
 pub enum LineFault {
+    #[error("there is no such command")]
     UnknownCommand,
+    #[error("words are parted by one blank, and none stands before or behind them")]
     EmptyWord,
+    #[error("the command needs more words")]
     TooFewWords,
+    #[error("the command has too many words")]
     TooManyWords,
+    #[error("a number is not written in digits, or is too large")]
     NoNumber,
+    #[error("there is no such kind of value")]
     UnknownKind,
+    #[error("there is no such line agreement")]
     UnknownLine,
-}
-
-impl fmt::Display for LineFault {
-    fn fmt<W: fmt::Write>(&self, f: &mut fmt::Formatter<W>) -> fmt::Result {
-        f.write_str(match self {
-            LineFault::UnknownCommand => "there is no such command",
-            LineFault::EmptyWord =>
-                "words are parted by one blank, and none stands before or behind them",
-            LineFault::TooFewWords => "the command needs more words",
-            LineFault::TooManyWords => "the command has too many words",
-            LineFault::NoNumber => "a number is not written in digits, or is too large",
-            LineFault::UnknownKind => "there is no such kind of value",
-            LineFault::UnknownLine => "there is no such line agreement",
-        })
-    }
 }
 
 impl From<ParseIntError> for LineFault {

@@ -5,12 +5,16 @@ ghost use Rattle.script.specs.declared.hex.HexFault.TheVariants.{NoDigit, Memory
 
 use std::alloc::{AllocFailed, Global};
 use std::fmt;
+use thiserror::Error;
 
 // A digit is missing, a character is no digit, or there is no memory for the bytes.
-#[derive(Clone, Copy, PartialEq, Eq, Debug)]
+#[derive(Clone, Copy, PartialEq, Eq, Debug, Error)]
 pub enum HexFault {
+    #[error("the hex has an odd number of digits")]
     HalfByte,
+    #[error("the hex has a character that is not 0 to 9 or a to f")]
     NoDigit,
+    #[error("there is no memory for the bytes")]
     Memory,
 }
 
@@ -19,16 +23,6 @@ impl From<AllocFailed<u8>> for HexFault {
 
     fn from(_e: AllocFailed<u8>) -> HexFault {
         HexFault::Memory
-    }
-}
-
-impl fmt::Display for HexFault {
-    fn fmt<W: fmt::Write>(&self, f: &mut fmt::Formatter<W>) -> fmt::Result {
-        f.write_str(match self {
-            HexFault::HalfByte => "the hex has an odd number of digits",
-            HexFault::NoDigit => "the hex has a character that is not 0 to 9 or a to f",
-            HexFault::Memory => "there is no memory for the bytes",
-        })
     }
 }
 

@@ -2,83 +2,40 @@
 use label::{Fault, TextFault};
 use records::PlanFault;
 use script::{HexFault, LineFault};
-use std::alloc::{AllocError, AllocFailed};
-use std::fmt;
+use std::alloc::AllocError;
+use thiserror::Error;
 use wire::CrewFault;
 
 // A text is no label, or its label is no station of the plan; the library refuses the file or the crew; the line is no
 // command; its bytes are no hex; there is no plan or line of its name; or there is no memory.
-#[derive(Clone, Copy)]
+#[derive(Clone, Copy, Debug, Error)]
 pub enum NoAnswer {
-    Label(TextFault),
+    #[error("refusal {}", .0.diagnostic().number)]
+    Label(#[from] TextFault),
+    // No library fault has the number 13: it is the script's answer for a station that the plan lacks.
+    #[error("refusal 13")]
     NoStation,
-    Plan(PlanFault),
-    Crew(CrewFault),
-    Line(LineFault),
+    #[error("{}", .0.diagnostic())]
+    Plan(#[from] PlanFault),
+    #[error("{}", .0.diagnostic())]
+    Crew(#[from] CrewFault),
+    #[error("error: {0}")]
+    Line(#[from] LineFault),
+    #[error("error: {0}")]
     Hex(HexFault),
+    #[error("error: there is no plan of this name")]
     UnknownPlan,
+    #[error("error: there is no line of this name")]
     UnknownUnit,
-    Memory,
-}
-
-impl From<TextFault> for NoAnswer {
-    fn from(fault: TextFault) -> NoAnswer {
-        NoAnswer::Label(fault)
-    }
-}
-
-impl From<PlanFault> for NoAnswer {
-    fn from(fault: PlanFault) -> NoAnswer {
-        NoAnswer::Plan(fault)
-    }
-}
-
-impl From<CrewFault> for NoAnswer {
-    fn from(fault: CrewFault) -> NoAnswer {
-        NoAnswer::Crew(fault)
-    }
-}
-
-impl From<LineFault> for NoAnswer {
-    fn from(fault: LineFault) -> NoAnswer {
-        NoAnswer::Line(fault)
-    }
+    #[error("error: there is no memory")]
+    Memory(#[from(alloc)] AllocError),
 }
 
 impl From<HexFault> for NoAnswer {
     fn from(fault: HexFault) -> NoAnswer {
         match fault {
-            HexFault::Memory => NoAnswer::Memory,
+            HexFault::Memory => NoAnswer::Memory(AllocError),
             HexFault::HalfByte | HexFault::NoDigit => NoAnswer::Hex(fault),
-        }
-    }
-}
-
-impl From<AllocError> for NoAnswer {
-    fn from(_e: AllocError) -> NoAnswer {
-        NoAnswer::Memory
-    }
-}
-
-impl<T: Drop> From<AllocFailed<T>> for NoAnswer {
-    fn from(_e: AllocFailed<T>) -> NoAnswer {
-        NoAnswer::Memory
-    }
-}
-
-impl fmt::Display for NoAnswer {
-    fn fmt<W: fmt::Write>(&self, f: &mut fmt::Formatter<W>) -> fmt::Result {
-        match self {
-            NoAnswer::Label(fault) => write!(f, "refusal {}", fault.diagnostic().number),
-            // No library fault has the number 13: it is the script's answer for a station that the plan lacks.
-            NoAnswer::NoStation => f.write_str("refusal 13"),
-            NoAnswer::Plan(fault) => write!(f, "{}", fault.diagnostic()),
-            NoAnswer::Crew(fault) => write!(f, "{}", fault.diagnostic()),
-            NoAnswer::Line(fault) => write!(f, "error: {fault}"),
-            NoAnswer::Hex(fault) => write!(f, "error: {fault}"),
-            NoAnswer::UnknownPlan => f.write_str("error: there is no plan of this name"),
-            NoAnswer::UnknownUnit => f.write_str("error: there is no line of this name"),
-            NoAnswer::Memory => f.write_str("error: there is no memory"),
         }
     }
 }

@@ -49,7 +49,7 @@ impl Session {
     pub fn answer(&mut self, line: &str) -> Result<String, AllocError> {
         match self.answer_line(line) {
             Ok(answer) => Ok(answer),
-            Err(NoAnswer::Memory) => Err(AllocError),
+            Err(NoAnswer::Memory(error)) => Err(error),
             Err(other) => other.to_string(self.heap),
         }
     }
