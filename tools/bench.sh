@@ -58,6 +58,6 @@ for shape in line star tree; do
         read=$(total_of "$work/read")
         walk=$(total_of "$work/walk")
         printf '%-6s %9d %12d %12d %12s %12s\n' "$shape" "$count" $((read - none)) $((walk - none)) \
-            "$(spent_in yes Plan::read)" "$(spent_in no walks::station_walk)"
+            "$(spent_in yes Plan::read)" "$(spent_in no Cave::station_walk)"
     done
 done
