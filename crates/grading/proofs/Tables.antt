@@ -28,6 +28,9 @@ pub slots_fit : (w s n : ℕ) → w ≤ 8 → s < n → n ≤ 16 → w * s + w �
 slots_fit w s n narrow h few =
     omega (arith, mul-suc w s, mul-le-mul_left {m = suc s} {n = 16} w (omega arith), mul-le-mul_right {m = w} {n = 8} 16 narrow)
 
+pub frame_fits : (w n : ℕ) → w ≤ 8 → n ≤ 16 → w * n ≤ 128
+frame_fits w n narrow few = omega (arith, mul-le-mul_left {m = n} {n = 16} w few, mul-le-mul_right {m = w} {n = 8} 16 narrow)
+
 module _ {K : Type 0} (c : Coding K) (f : ℕ → Option K) (s : ℕ) (table old ys : List ℕ)
     (size : length ys ≡ c.wide) (fits : c.wide * s + c.wide ≤ length table)
     (front : take (c.wide * s) table ≡ slotted c f s) (back : drop (c.wide * s) table ≡ drop (c.wide * s) old)

@@ -7,11 +7,11 @@ use Rattle.label.specs.declared.label.Label.{Label}
 use Rattle.std.proofs.lemmas.Bool.Decides.{nat_tests}
 
 -- the order of two numbers, by tests of which is less
-last_step : (x y : ℕ) → nat_cmp x y ≡ cond (ltb x y) Less (cond (ltb y x) Greater Equal)
+pub last_step : (x y : ℕ) → nat_cmp x y ≡ cond (ltb x y) Less (cond (ltb y x) Greater Equal)
 last_step x y = grind (arith, nat_tests)
 
 -- the first byte decides, or the others do
-then_step : (x y : ℕ) (r s : Ordering) → r ≡ s → ordering_then (nat_cmp x y) r ≡ cond (ltb x y) Less (cond (ltb y x) Greater s)
+pub then_step : (x y : ℕ) (r s : Ordering) → r ≡ s → ordering_then (nat_cmp x y) r ≡ cond (ltb x y) Less (cond (ltb y x) Greater s)
 then_step x y r s e = grind (arith, nat_tests)
 
 -- the order of the eight fields is the order byte by byte

@@ -13,6 +13,10 @@ pub passed_true : {X : Type 0} (t : Bool) (f : t ≡ true → X) (e : t ≡ true
 passed_true true f e = ap (λ p. Some (f p)) (Bool-set true true e refl)
 passed_true false f e = absurd (true≢false (sym e))
 
+pub passed_false : {X : Type 0} (t : Bool) (f : t ≡ true → X) → t ≡ false → None ≡ passed t f
+passed_false true f e = absurd (true≢false e)
+passed_false false f e = refl
+
 passed_some : {X : Type 0} (t : Bool) (f : t ≡ true → X) (x : X) → passed t f ≡ Some x → (e : t ≡ true) × (f e ≡ x)
 passed_some true f x q = (refl, cc)
 passed_some false f x q = let z : ◌≡◌ {A = ℕ} 0 1 = cc in absurd (omega arith)

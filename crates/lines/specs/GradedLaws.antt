@@ -1,5 +1,5 @@
 -- The graded line keeps the laws of a line that speak of one unit.
-use Rattle.std.specs.Prelude.{◌≡◌, ℕ, zero, suc, ◌*◌, ◌≤◌, Bool, true, false, [], length, refl}
+use Rattle.std.specs.Prelude.{◌≡◌, ℕ, zero, suc, ◌-◌, ◌*◌, ◌≤◌, Bool, true, false, [], length, ◌≢◌, refl}
 use Rattle.std.proofs.Common.{ap, ◌∙◌, arith, length-take}
 use Rattle.std.proofs.lemmas.List.FromFn.{length-map-range_with_len}
 use Rattle.slot.specs.Positions.{number_of, position_coding}
@@ -105,3 +105,14 @@ pub is_capped : Capped graded_model
 is_capped crew span =
     let r = graded_iterations crew.n crew.t (span_of span) in
     omega (arith, thrice_is r, worsts.graded_few crew.n crew.t (span_of span) (omega (arith, crew.enough)), crew.enough, crew.few)
+
+-- the state after a round, by its parts
+pub after_is : (s : Graded) (box : Box) (l : ℕ) (ahead g : Grading Position) → (l ≢ 0) → ahead ≡ after position_coding s.grading box
+    → g ≡ carried_on s.span ahead (over ahead.stage) → ◌≡◌ {A = Graded} record { span = s.span; grading = g; left = l - 1 } (graded_after s box l)
+after_is s box zero ahead g some a e = absurd (some refl)
+after_is s box (suc l) ahead g some a e =
+    let less : suc l - 1 ≡ l = omega arith in
+    let on : g ≡ carried_on s.span (after position_coding s.grading box) (over (after position_coding s.grading box).stage) =
+    e ∙ ap (λ y. carried_on s.span y (over y.stage)) a in
+    let state : ℕ → Grading Position → Graded = λ m y. record { span = s.span; grading = y; left = m } in
+    ap (λ m. state m g) less ∙ ap (state l) on

@@ -22,6 +22,13 @@ pub trait Kind: Sized + Copy + PartialEq {
     // How the values stand in slots.
     ghost coding: { Coding Self };
 
+    // The width again, as a call, in the words of `coding`.
+    fn slot_width() -> usize
+        ensures { result ≡ coding.wide }
+    {
+        Self::WIDTH
+    }
+
     // The value in a slot's bytes.
     fn read(bytes: &[u8]) -> Option<Self>
         ensures { result ≡ coding.reads bytes.now };

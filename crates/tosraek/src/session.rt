@@ -2,7 +2,6 @@
 use crate::inbox::read_inbox;
 use crate::line_unit::LineUnit;
 use crate::outcome::NoAnswer;
-use crate::show::walk_of;
 use grading::grade_sender;
 use itertools::Itertools;
 use label::Label;
@@ -110,8 +109,11 @@ impl Session {
     }
 
     fn walk(&self, name: &str) -> Result<String, NoAnswer> {
-        let walk = walk_of(self.heap, self.plan(name)?)?;
-        Ok(walk.iter().join(self.heap, " ")?)
+        let plan = self.plan(name)?;
+        // `Plan::walk` writes into a buffer of the caller's and gives the count, since a plan's calls take no memory.
+        let mut walk = [plan.root(); 2047];
+        let count = plan.walk(&mut walk);
+        Ok(walk.iter().take(count).join(self.heap, " ")?)
     }
 
     fn depth(&self, name: &str, text: &str) -> Result<String, NoAnswer> {
@@ -122,7 +124,6 @@ impl Session {
 
     fn way(&self, name: &str, from: &str, to: &str) -> Result<String, NoAnswer> {
         let plan = self.plan(name)?;
-        // `Plan::way` writes into a buffer of the caller's and gives the count, since a plan's calls take no memory.
         let mut way = [plan.root(); 1024];
         let count = plan
             .way(typed(from)?, typed(to)?, &mut way)

@@ -1,18 +1,10 @@
 // A plan as a person reads it.
 use label::Label;
 use plan::Plan;
-use std::alloc::{AllocError, Global};
 use std::io;
 use tree::Station;
 
 const COLUMNS: usize = 72;
-
-// The walk of a plan.
-pub fn walk_of(heap: Global, plan: &Plan) -> Result<Vec<Label>, AllocError> {
-    let mut walk = [plan.root(); 2047];
-    let count = plan.walk(&mut walk);
-    walk.iter().copied().take(count).collect(heap)
-}
 
 pub fn show_plan(rt: &HostRuntime, plan: &Plan) -> io::Result<()> {
     let stations = plan.stations();
@@ -22,9 +14,11 @@ pub fn show_plan(rt: &HostRuntime, plan: &Plan) -> io::Result<()> {
     let root = plan.root();
     let height = plan.height();
     println!(rt; "root: {root}\nheight: {height}")?;
-    let walk = walk_of(rt.alloc(), plan)?;
-    show_tree(rt, plan, walk.as_slice())?;
-    show_walk(rt, walk.as_slice())
+    // The walk lies in a buffer of fixed size, so that all but its text is shown without a need of memory.
+    let mut walk = [root; 2047];
+    let count = plan.walk(&mut walk);
+    show_tree(rt, plan, &walk[..count])?;
+    show_walk(rt, &walk[..count])
 }
 
 // A line for each leg, the station nearer to the root first.

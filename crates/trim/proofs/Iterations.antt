@@ -51,6 +51,12 @@ so_far_last m D r f k top w next some last t e n =
 ceil_more : (a b m : ℕ) → 0 < m → a ≤ b → ceil a m ≤ ceil b m
 ceil_more a b m pos h = (le-div_iff_mul-le {k = m} {x = ceil a m} {y = b + (m - 1)} pos).1 (omega (arith, div-mul-le_self (a + (m - 1)) m))
 
+-- k of m parts of a spread, rounded up, are at most the spread where k is at most m
+pub ceil_part : (k D m : ℕ) → 0 < m → k ≤ m → ceil (k * D) m ≤ D
+ceil_part k D m pos h =
+    let r : k * D + (m - 1) < suc D * m = omega (arith, mul-le-mul_right {m = k} {n = m} D h, suc-mul D m, mul_comm D m) in
+    omega (arith, (div-lt_iff_lt-mul {k = m} {x = k * D + (m - 1)} {y = suc D} pos).1 r)
+
 -- std's `div_ceil`, which rounds up too
 pub ceil_is : (a m : ℕ) → 0 < m → div_ceil a m ≡ ceil a m
 ceil_is a m pos =

@@ -1,9 +1,9 @@
 -- Frames and tables of frames.
-use Rattle.std.proofs.Common.{◌≡◌, ℕ, zero, suc, ◌+◌, ◌-◌, ◌*◌, ◌<◌, ◌≤◌, ◌&&◌, eqb, ltb, leb, List, [], ◌∷◌, ◌++◌, map, length, get_or, take, drop, set, Some, None, Option, sym, refl, ap, ◌∙◌, mul-le-mul_left, mul-suc, arith, length-take-le, take-take, take_at}
+use Rattle.std.proofs.Common.{◌≡◌, ℕ, zero, suc, ◌+◌, ◌-◌, ◌*◌, ◌<◌, ◌≤◌, ◌&&◌, eqb, ltb, leb, List, [], ◌∷◌, ◌++◌, map, length, get_or, take, drop, set, Some, None, Option, sym, refl, ap, ◌∙◌, mul-le-mul_right, mul-le-mul_left, mul-suc, arith, length-take, length-take-le, take-take, take_at}
 use Rattle.std.proofs.lemmas.List.{map-set, set_past, length-map}
 use Rattle.std.proofs.lemmas.Slice.{between_is}
-use Rattle.std.proofs.lemmas.Bool.{and_from, cond-true, cond-false, eq-eqb, lt-ltb, le-leb, lt-leb}
-use Rattle.slot.specs.Codings.{Coding}
+use Rattle.std.proofs.lemmas.Bool.{and_from, and_right, cond-true, cond-false, eq-eqb, ne_eqb, lt-ltb, le-leb, lt-leb}
+use Rattle.slot.specs.Codings.{Coding, Lawful}
 use Rattle.slot.specs.Slots.{laid}
 use Rattle.wire.specs.Boxes.{from}
 use Rattle.wire.specs.Frames.{carried, framed, sent}
@@ -48,7 +48,22 @@ put_past fs i b h = sym (set_past (map sent fs) i b (omega (arith, length-map fs
 pub slot_ends : (w s n : ℕ) → s < n → w * s + w ≤ w * n
 slot_ends w s n h = omega (arith, mul-suc w s, mul-le-mul_left {m = suc s} {n = n} w h)
 
+-- every slot of a frame is missing where its length is not that of so many slots
+pub other_length : {K : Type 0} (c : Coding K) (n s : ℕ) (frame : List ℕ) → (length frame ≡ c.wide * n → ⊥) → None ≡ slot_of c n s frame
+other_length c n s frame other =
+    sym (cond-false (ltb s n && eqb (length frame) (c.wide * n)) (c.reads (take c.wide (drop (c.wide * s) frame))) None
+    (and_right (ltb s n) (eqb (length frame) (c.wide * n)) (ne_eqb _ _ other)))
+
+-- and so where there are more slots than a frame can have
+pub crowded : {K : Type 0} (c : Coding K) → Lawful c → (n s len : ℕ) (bytes : List ℕ) → len ≤ 128 → 128 < n → None ≡ slot_of c n s (take len bytes)
+crowded c l n s len bytes short h =
+    other_length c n s (take len bytes)
+    (λ e. omega (arith, e, length-take len bytes, mul-le-mul_right {m = 1} {n = c.wide} n l.some))
+
 module _ {K : Type 0} (c : Coding K) (n s len : ℕ) (bytes : List ℕ) (long : length bytes ≡ 128) (short : len ≤ 128) where
+  pub slot_missing : (len ≡ c.wide * n → ⊥) → None ≡ slot_of c n s (take len bytes)
+  slot_missing other = other_length c n s (take len bytes) (λ e. other (sym (length-take-le len bytes (omega arith)) ∙ e))
+
   -- the bytes that the code reads are the slot's
   pub slot_is : len ≡ c.wide * n → s < n
       → c.reads (take ((c.wide * s + c.wide) - c.wide * s) (drop (c.wide * s) bytes)) ≡ slot_of c n s (take len bytes)
