@@ -1,7 +1,7 @@
 -- The theory of a rooted tree, by climbing.
 use Rattle.std.proofs.Common.{◌≡◌, ℕ, zero, suc, ◌+◌, ◌-◌, ◌<◌, ◌≤◌, ◌⊎◌, sym, ap, ◌∙◌, subst, inl, inr, ⊎_elim, arith}
 use Rattle.std.proofs.lemmas.Bool.{cases_lt, cases_eq}
-use Rattle.tree.specs.Trees.{Rooted, climb, AboveAt, UnderAt, MeetAt}
+use Rattle.tree.specs.Trees.{Rooted, climb, AboveAt, UnderAt, LegAt, MeetAt}
 
 pub climb_add : (up : ℕ → ℕ) (m k x : ℕ) → climb up (m + k) x ≡ climb up k (climb up m x)
 climb_add up zero k x = let e : 0 + k ≡ k = omega arith in ap (λ (i : ℕ). climb up i x) e
@@ -51,6 +51,13 @@ module _ {n : ℕ} {up depth : ℕ → ℕ} (r : Rooted n up depth) where
 
   pub above_both : (a b : ℕ) → AboveAt up depth a b → AboveAt up depth b a → a ≡ b
   above_both a b p q = above_level a b p q.0
+
+  pub above_cases : (a b x : ℕ) → AboveAt up depth a x → AboveAt up depth b x → AboveAt up depth a b ⊎ AboveAt up depth b a
+  above_cases a b x p q =
+      ⊎_elim
+      (λ (lt : depth a < depth b). inl (above_line a b x p q (omega arith)))
+      (λ (le : depth b ≤ depth a). inr (above_line b a x q p le))
+      (cases_lt (depth a) (depth b))
 
   pub depth_pos : (x : ℕ) → x < n → 0 < depth x
   depth_pos x l = ⊎_elim (λ (e : x ≡ 0). omega (arith, ap depth e, r.top)) (λ (ne : x ≡ 0 → ⊥). omega (arith, r.deeper x (omega arith) l)) (cases_eq x 0)
@@ -102,6 +109,31 @@ module _ {n : ℕ} {up depth : ℕ → ℕ} (r : Rooted n up depth) where
 
   pub under_depth : (x y : ℕ) → UnderAt n up x y → depth x ≡ depth y + 1
   under_depth x y u = omega (arith, r.deeper x u.0 u.1, ap depth u.2)
+
+  -- what is above x, one less deep, is one leg above it
+  pub above_next : (a b : ℕ) → b < n → a < n → AboveAt up depth a b → depth b ≡ depth a + 1 → UnderAt n up b a
+  above_next a b l la p e =
+      let pos = depth_pos a la in
+      let some : 0 < b = not_root b (omega arith) in
+      let d = r.deeper b some l in
+      ⊎_elim
+      (λ (q : a ≡ b). absurd (omega (arith, ap depth q)))
+      (λ (q : AboveAt up depth a (up b)). (some, l, sym (above_level a (up b) q (omega arith))))
+      (above_over a b some l p)
+
+  -- two stations above one, their depths at most 1 apart
+  pub above_beside : (a b x : ℕ) → x < n → AboveAt up depth a x → AboveAt up depth b x → depth a ≤ depth b + 1 → depth b ≤ depth a + 1 → (a ≡ b) ⊎ LegAt n up a b
+  above_beside a b x l p q h k =
+      let la = above_inside a x l p in
+      let lb = above_inside b x l q in
+      ⊎_elim
+      (λ (lt : depth a < depth b). inr (inl (above_next a b lb la (above_line a b x p q (omega arith)) (omega arith))))
+      (λ (le : depth b ≤ depth a).
+      ⊎_elim
+      (λ (lt : depth b < depth a). inr (inr (above_next b a la lb (above_line b a x q p le) (omega arith))))
+      (λ (ge : depth a ≤ depth b). inl (above_level a b (above_line a b x p q ge) le))
+      (cases_lt (depth b) (depth a)))
+      (cases_lt (depth a) (depth b))
 
   pub deepest : (d u v : ℕ) → u < n → v < n → depth u ≤ d → (w : ℕ) × MeetAt n up depth w u v
   deepest zero u v lu lv h = absurd (omega (arith, depth_pos u lu))

@@ -1,5 +1,6 @@
 -- Every station occurs in the walk, and has a first place.
-use Rattle.std.proofs.Common.{◌≡◌, ℕ, zero, suc, ◌+◌, ◌-◌, ◌<◌, ◌≤◌, Bool, cond, List, [], ◌∷◌, ◌++◌, length, get_or, Contains, sym, ap, ◌∙◌, subst, ⊎_elim, arith}
+use Rattle.std.proofs.Common.{◌≡◌, ℕ, zero, suc, ◌+◌, ◌-◌, ◌<◌, ◌≤◌, Bool, cond, List, [], ◌∷◌, ◌++◌, length, get_or, drop, Contains, sym, ap, ◌∙◌, subst, ⊎_elim, arith}
+use Rattle.std.proofs.lemmas.List.{drop_more, drop_all}
 use Rattle.std.specs.List.{flat_map}
 use Rattle.std.proofs.lemmas.Bool.{cases_lt, cases_eq, eq-eqb, ne_eqb}
 use Rattle.std.proofs.lemmas.List.{get_or_default}
@@ -75,3 +76,13 @@ walk_has_all ps c x l =
     let r = rooted ps c in
     let h = walk_has r (length ps - depth_of ps 0) 0 x c.some l (omega arith) (root_above r x l) in
     first_at x (walk_from ps 0) h.0 h.1 (get_or_default (walk_from ps 0) h.0 0 x h.1 ∙ h.2)
+
+module _ (x : ℕ) (ws : List ℕ) (k : ℕ) where
+  pub place_here : k < length ws → get_or ws k 0 ≡ x → first_place x (drop k ws) ≡ 1
+  place_here l e = ap (first_place x) (drop_more ws k 0 l) ∙ ap (λ (b : Bool). cond b 1 (first_place x (drop (k + 1) ws) + 1)) (eq-eqb _ _ e)
+
+  pub place_next : k < length ws → (get_or ws k 0 ≡ x → ⊥) → first_place x (drop k ws) ≡ first_place x (drop (k + 1) ws) + 1
+  place_next l e = ap (first_place x) (drop_more ws k 0 l) ∙ ap (λ (b : Bool). cond b 1 (first_place x (drop (k + 1) ws) + 1)) (ne_eqb _ _ e)
+
+  pub place_end : length ws ≤ k → first_place x (drop k ws) ≡ 1
+  place_end l = ap (first_place x) (drop_all k ws l)

@@ -192,3 +192,9 @@ module _ {n : ℕ} {up depth : ℕ → ℕ} (r : Rooted n up depth) where
 
   pub below_some : (i : ℕ) → i < n → 0 < below n up depth i
   below_some i l = omega (arith, below_step i l)
+
+  pub branch_over : (w x : ℕ) → w < n → x < n → AboveAt up depth w x → depth w < depth x → (o : ℕ) × ((0 < o) × (o < n) × (up o ≡ w) × (depth o ≡ depth w + 1) × AboveAt up depth o x)
+  branch_over w x lw lx p h =
+      let f = branch_above w x lw lx p h in
+      let b = mem_all (λ j. (0 < j) × (j < n) × (up j ≡ w)) f.0 (branches n up w) f.1.0 (branch_of r w) in
+      (f.0, (b.0, b.1, b.2, f.1.1, f.1.2))

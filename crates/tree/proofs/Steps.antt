@@ -1,7 +1,7 @@
 -- One turn of the climbs.
 use Rattle.std.proofs.Common.{◌≡◌, ℕ, suc, ◌-◌, ◌<◌, ◌≤◌, sym, ap, subst, ⊎_elim, arith}
-use Rattle.tree.specs.Trees.{Rooted, climb, AboveAt}
-use Rattle.tree.proofs.Climbs.{above_trans, above_up, above_level, above_over, depth_pos, not_root, off_root}
+use Rattle.tree.specs.Trees.{Rooted, climb, AboveAt, MeetAt}
+use Rattle.tree.proofs.Climbs.{above_self, above_trans, above_up, above_level, above_over, depth_pos, not_root, off_root}
 
 -- a is above u, b above v, and what is above u and v is above both
 abbrev pub Closing : ℕ → (ℕ → ℕ) → (ℕ → ℕ) → ℕ → ℕ → ℕ → ℕ → Type 0
@@ -13,6 +13,12 @@ module _ {n : ℕ} {up depth : ℕ → ℕ} (r : Rooted n up depth) where
       let d = r.deeper x (not_root r x (omega arith)) l in
       let s : depth x - k ≡ suc (depth (up x) - k) = omega arith in
       sym (ap (λ (m : ℕ). climb up m x) s)
+
+  pub climb_here : (x k : ℕ) → depth x ≤ k → climb up (depth x - k) x ≡ x
+  climb_here x k h = let z : depth x - k ≡ 0 = omega arith in ap (λ (m : ℕ). climb up m x) z
+
+  pub closing_start : (u v : ℕ) → u < n → v < n → Closing n up depth u v u v
+  closing_start u v lu lv = (lu, lv, above_self r u, above_self r v, λ c p q. (p, q))
 
   pub closing_left : (u v a b : ℕ) → Closing n up depth u v a b → (a ≡ b → ⊥) → depth b ≤ depth a → Closing n up depth u v (up a) b × (depth (up a) < depth a)
   closing_left u v a b k ne le =
@@ -46,3 +52,6 @@ module _ {n : ℕ} {up depth : ℕ → ℕ} (r : Rooted n up depth) where
         ),
         omega arith,
       )
+
+  pub closing_end : (u v a b : ℕ) → Closing n up depth u v a b → a ≡ b → MeetAt n up depth a u v
+  closing_end u v a b k e = (k.0, k.2, subst (λ (z : ℕ). AboveAt up depth z v) (sym e) k.3, λ c p q. (k.4 c p q).0)

@@ -12,11 +12,12 @@ use Rattle.tree.specs.Ways.{On}
 use Rattle.tree.specs.Stations.{station_label, parent_of, depth_of, Canonical, rooted}
 use Rattle.tree.specs.Caves.{Leg, Above}
 use Rattle.tree.specs.Walks.{walk_of, walk_from, walk_labels, first_place}
-use Rattle.tree.specs.WalkLaws.{WalkLaws}
+use Rattle.tree.specs.WalkLaws.{WalkLaws, FirstPlace}
 use Rattle.tree.proofs.Entries.{walk_below, walk_convex, walk_legs}
 use Rattle.tree.proofs.Firsts.{walk_has_all}
 use Rattle.tree.proofs.Listed.{walk_listed}
 use Rattle.tree.proofs.Meaning.{above_held, above_is}
+use Rattle.tree.proofs.Named.{one_label}
 use Rattle.tree.proofs.Sizes.{walk_size, below_root}
 
 on_at : {X : Type 0} (d a : X) (xs : List X) (k : ℕ) → k < length xs → get_or xs k d ≡ a → On a xs
@@ -77,4 +78,18 @@ module _ (ps : List Station) (h : Canonical ps) where
             subst (Above ps w) (sym (entry_label k (omega arith)))
             (stretch w i k j a b (omega arith) (subst (Above ps w) (entry_label i (omega arith)) p) (subst (Above ps w) (entry_label j (omega arith)) q));
         listed = ap (map (station_label ps)) (sym (walk_listed ps h));
+      }
+
+  -- the first place of a station is that of its label
+  pub first_place_lem : (x : ℕ) → x < length ps → FirstPlace (walk_labels ps) (station_label ps x) (first_place x (walk_from ps 0))
+  first_place_lem x l =
+      let f = walk_has_all ps h x l in
+      let n = labels_long in
+      record {
+        some = f.0;
+        most = omega (arith, f.1);
+        here = entry_label (first_place x (walk_from ps 0) - 1) (omega (arith, f.0, f.1)) ∙ ap (station_label ps) f.2;
+        first = λ k lt e.
+            let lk : k < length (walk_from ps 0) = omega (arith, f.1) in
+            f.3 k lt (one_label ps h (get_or (walk_from ps 0) k 0) x (entry_inside k lk) l (sym (entry_label k lk) ∙ e));
       }

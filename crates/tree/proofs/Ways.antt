@@ -1,7 +1,7 @@
 -- The way between two stations: there is one, only one, and which stations are on it.
 use Rattle.std.proofs.Common.{◌≡◌, ℕ, zero, suc, ◌+◌, ◌<◌, ◌≤◌, eqb, ltb, ◌⊎◌, ◌↔◌, List, [], ◌∷◌, ◌++◌, sym, refl, ap, ◌∙◌, subst, inl, inr, ⊎_elim, arith}
 use Rattle.std.proofs.lemmas.Bool.{cases_lt, cases_eq, eq-eqb, ne_eqb, lt-ltb, le-ltb, cond-true, cond-false}
-use Rattle.tree.specs.Trees.{Rooted, AboveAt, UnderAt, LegAt}
+use Rattle.tree.specs.Trees.{Rooted, AboveAt, UnderAt, LegAt, MeetAt}
 use Rattle.tree.specs.Courses.{course_of}
 use Rattle.tree.specs.Ways.{On, Apart, Goes, Way, OnWay}
 use Rattle.tree.proofs.Climbs.{above_self, above_trans, above_up, above_line, above_level, above_last, above_either, above_both, depth_pos, above_inside, root_above, off_root, above_over, under_above, under_depth}
@@ -250,6 +250,10 @@ module _ {n : ℕ} {up depth : ℕ → ℕ} (r : Rooted n up depth) where
 
   pub way_there : (u v : ℕ) → u < n → v < n → (xs : List ℕ) × Way (LegAt n up) u xs v
   way_there u v lu lv = let f = (course_is (depth u + depth v) u v lu lv (omega arith)).0 in (f.0, f.1.0)
+
+  -- the deepest station above two stations is one
+  pub meet_one : (u v m k : ℕ) → MeetAt n up depth m u v → MeetAt n up depth k u v → k ≡ m
+  meet_one u v m k p q = above_both r k m (p.3 k q.1 q.2) (q.3 m p.1 p.2)
 
   -- above is: on the way from the root
   pub above_way : (w x : ℕ) → x < n → AboveAt up depth w x ↔ OnWay (LegAt n up) 0 x w
