@@ -4,7 +4,6 @@ ghost use Rattle.tree.specs.Caves.{Holds, root_label, Root, Above, Height, OneWa
 ghost use Rattle.ways.specs.Calls.{DepthTold, DeepestTold, AtDepthTold, WayTold};
 
 use crate::cave::Cave;
-use crate::writing::write_to;
 use arrayvec::ArrayVec;
 use label::Label;
 
@@ -81,6 +80,6 @@ impl Cave<'_> {
         let (u, v) = self.find_both(from, to)?;
         let mut course = ArrayVec::new();
         self.list_course(u, v, &mut course);
-        Some(write_to(&course, out))
+        Some(self.write_labels(&course, out))
     }
 }
