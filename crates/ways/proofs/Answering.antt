@@ -1,8 +1,6 @@
 -- What an answer by indices says of labels.
-use Rattle.std.proofs.Common.{◌≡◌, ℕ, ◌+◌, ◌-◌, ◌<◌, ◌≤◌, false, eqb, List, [], ◌∷◌, map, length, get_or, take, drop, Some, None, Decides, Option, sym, refl, ap, ◌∙◌, subst, ⊎_elim, arith}
+use Rattle.std.proofs.Common.{◌≡◌, ℕ, ◌-◌, ◌<◌, ◌≤◌, false, eqb, List, ◌∷◌, map, length, take, drop, Some, None, Decides, Option, sym, refl, ap, ◌∙◌, subst, ⊎_elim, arith}
 use Rattle.std.proofs.lemmas.Bool.{cases_lt, eqb-true, eq-eqb}
-use Rattle.std.specs.List.{AllByRecursion}
-use Rattle.label.proofs.Elements.{AllByRecursion-get_or}
 use Rattle.label.specs.declared.label.Label.{Label}
 use Rattle.tree.specs.declared.Station.{Station}
 use Rattle.tree.specs.Trees.{climb, AboveAt, MeetAt}
@@ -14,11 +12,9 @@ use Rattle.tree.specs.Index.{Found}
 use Rattle.tree.specs.Walks.{walk_from, walk_labels, first_place}
 use Rattle.tree.specs.WalkLaws.{FirstPlace}
 use Rattle.tree.proofs.Climbs.{depth_pos}
-use Rattle.tree.proofs.Courses.{course_way, course_short}
+use Rattle.tree.proofs.Courses.{course_way}
 use Rattle.tree.proofs.Meaning.{root_is, above_held, above_is, depth_is, deepest_is, at_depth_is}
-use Rattle.tree.proofs.Named.{goes_inside}
 use Rattle.tree.proofs.Walking.{first_place_lem}
-use Rattle.tree.proofs.Ways.{course_is}
 use Rattle.ways.specs.Calls.{WayTold, CountsAs}
 
 -- station i has the label a
@@ -65,16 +61,6 @@ module _ (ps : List Station) (h : Canonical ps) where
   pub told_at_depth : (a l : Label) (v s k : ℕ) → At ps a v → 0 < k → s ≡ climb (parent_of ps) (depth_of ps v - k) v → l ≡ station_label ps s → AtDepth ps a k l
   told_at_depth a l v s k f pos e el =
       subst (λ (z : Label). AtDepth ps a k z) (sym (el ∙ ap (station_label ps) e)) (subst (λ (z : Label). AtDepth ps z k (station_label ps (climb (parent_of ps) (depth_of ps v - k) v))) f.1 (at_depth_is ps h v k f.0 pos))
-
-  pub course_fits : (u v : ℕ) (xs : List ℕ) → u < length ps → v < length ps → xs ≡ [] → length xs + length (course_from ps u v) ≤ 1024
-  course_fits u v xs lu lv e = omega (arith, ap length e, course_short ps h u v lu lv, h.few)
-
-  pub course_inside : (u v : ℕ) → u < length ps → v < length ps → (k : ℕ) → k < length (course_from ps u v) → get_or (course_from ps u v) k 0 < length ps
-  unfolding course_from
-  course_inside u v lu lv k l =
-      let t = course_is (rooted ps h) (depth_of ps u + depth_of ps v) u v lu lv (omega arith) in
-      let inn : AllByRecursion (λ x. x < length ps) (u ∷ t.0.0) = (lu, goes_inside (rooted ps h) u v t.0.0 t.0.1.0.0) in
-      subst (λ (ys : List ℕ). k < length ys → get_or ys k 0 < length ps) (sym t.1) (λ m. AllByRecursion-get_or (λ x. x < length ps) (u ∷ t.0.0) k 0 m inn) l
 
   pub told_way : (a b : Label) (before after : List Label) (u v n : ℕ) → At ps a u → At ps b v → take n after ≡ map (station_label ps) (course_from ps u v) → drop n after ≡ drop n before → n ≤ 1024 → WayTold ps a b before after (Some n)
   told_way a b before after u v n fu fv w d le =

@@ -1,34 +1,58 @@
-// The way between two stations as a list of indices.
-ghost use Rattle.std.specs.Prelude.{◌≡◌, ◌+◌, ◌<◌, ◌≤◌, ◌++◌, length};
-ghost use Rattle.arrayvec.specs.ArrayVec.{array_vec_len};
+// The way between two stations, written to the front of a buffer.
+ghost use Rattle.std.specs.Prelude.{◌≡◌, ◌<◌, map, length, take, drop};
 ghost use Rattle.tree.specs.Courses.{course_from};
+ghost use Rattle.tree.specs.Stations.{station_label};
 
 use crate::cave::Cave;
-use arrayvec::ArrayVec;
+use label::Label;
 
 impl Cave<'_> {
-    // Lists the stations on the way from u to v: those above u as they come, and those above v after them, the last one first.
-    pub(crate) fn list_course(&self, u: usize, v: usize, course: &mut ArrayVec<u16, 1024>)
+    // How many stations are on the way from u to v.
+    fn course_length(&self, u: usize, v: usize) -> usize
         requires first { u < length self.now.stations.now }
         requires second { v < length self.now.stations.now }
-        requires room { array_vec_len course.old + length (course_from self.now.stations.now u v) ≤ 1024 }
-        ensures { course.new.items ≡ course.old.items ++ course_from self.now.stations.now u v }
+        ensures { result ≡ length (course_from self.now.stations.now u v) }
     {
-        let mut after: ArrayVec<u16, 1024> = ArrayVec::new();
         let mut a = u;
         let mut b = v;
+        let mut count = 1;
         while a != b {
             if self.depth_of(a) < self.depth_of(b) {
-                after.push(b as u16);
                 b = self.parent_of(b);
             } else {
-                course.push(a as u16);
+                a = self.parent_of(a);
+            }
+            count += 1;
+        }
+        count
+    }
+
+    // Writes the labels of the stations on the way from u to v, and gives their count; what stands behind them is kept. The way is
+    // climbed a second time: a list of its stations takes longer to make than most ways take to climb.
+    pub(crate) fn write_course(&self, u: usize, v: usize, out: &mut [Label; 1024]) -> usize
+        requires first { u < length self.now.stations.now }
+        requires second { v < length self.now.stations.now }
+        ensures count { result ≡ length (course_from self.now.stations.now u v) }
+        ensures written { take result out.new ≡ map (station_label self.now.stations.now) (course_from self.now.stations.now u v) }
+        ensures behind { drop result out.new ≡ drop result out.old }
+    {
+        let total = self.course_length(u, v);
+        let mut a = u;
+        let mut b = v;
+        let mut front = 0;
+        let mut back = total;
+        while a != b {
+            if self.depth_of(a) < self.depth_of(b) {
+                back -= 1;
+                out[back] = self.label_of(b);
+                b = self.parent_of(b);
+            } else {
+                out[front] = self.label_of(a);
+                front += 1;
                 a = self.parent_of(a);
             }
         }
-        course.push(a as u16);
-        while let Some(at) = after.pop() {
-            course.push(at);
-        }
+        out[front] = self.label_of(a);
+        total
     }
 }
