@@ -5,3 +5,4 @@ pub mod Depths
 pub mod Finding
 pub mod Naming
 pub mod Placing
+pub mod Writing

@@ -4,8 +4,6 @@ ghost use Rattle.tree.specs.Caves.{Holds, root_label, Root, Above, Height, OneWa
 ghost use Rattle.ways.specs.Calls.{DepthTold, DeepestTold, AtDepthTold, WayTold};
 
 use crate::cave::Cave;
-use crate::writing::write_to;
-use arrayvec::ArrayVec;
 use label::Label;
 
 impl Cave<'_> {
@@ -73,14 +71,12 @@ impl Cave<'_> {
 
     // Writes the stations on the way between two, from the first to the second, and gives their count; what stands
     // behind them in the buffer is kept. The buffer is the caller's, since no call here takes memory.
-    #[tactic(auto, using(tree::proofs::Named::one_way, crate::proofs::Answering::course_fits))]
+    #[tactic(auto, using(tree::proofs::Named::one_way))]
     pub fn way(&self, from: Label, to: Label, out: &mut [Label; 1024]) -> Option<usize>
         ensures written { WayTold self.now.stations.now from to out.old out.new result }
         ensures only { OneWay }
     {
         let (u, v) = self.find_both(from, to)?;
-        let mut course = ArrayVec::new();
-        self.list_course(u, v, &mut course);
-        Some(write_to(&course, out))
+        Some(self.write_course(u, v, out))
     }
 }

@@ -6,8 +6,8 @@ mod cave;
 mod climbs;
 mod courses;
 mod finds;
+mod labels;
 mod places;
 mod walks;
-mod writing;
 
 pub use cave::Cave;

@@ -5,7 +5,6 @@ ghost use Rattle.tree.specs.WalkLaws.{WalkLaws};
 ghost use Rattle.ways.specs.Calls.{Placed, entry_at};
 
 use crate::cave::Cave;
-use crate::writing::write_to;
 use label::Label;
 
 impl Cave<'_> {
@@ -18,15 +17,16 @@ impl Cave<'_> {
         ensures behind { drop result out.new ≡ drop result out.old }
         ensures laws { WalkLaws self.now.stations.now (take result out.new) }
     {
-        write_to(&self.whole_walk(), out)
+        self.write_labels(&self.whole_walk(), out)
     }
 
     // The first place of a station on the walk; one that is not there counts as the root.
     pub fn first_place(&self, label: Label) -> usize
         ensures { Placed self.now.stations.now label result }
     {
+        let at = self.find(label).unwrap_or(0);
         let walk = self.whole_walk();
-        let index = walk.iter().position(|entry| *entry == label);
+        let index = walk.iter().position(|entry| usize::from(*entry) == at);
         index.map_or(1, |k| k + 1)
     }
 
@@ -39,6 +39,7 @@ impl Cave<'_> {
             return self.root();
         };
         let walk = self.whole_walk();
-        walk.get(index).copied().unwrap_or(self.root())
+        let at = walk.get(index).copied().unwrap_or(0);
+        self.label_of(usize::from(at))
     }
 }

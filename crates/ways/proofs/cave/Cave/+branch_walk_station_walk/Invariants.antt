@@ -11,5 +11,5 @@ decreases-branch_walk l = 2 * below (length l.self.now.stations.now) (parent_of 
 abbrev pub decreases-station_walk : goal.decreases-station_walk
 decreases-station_walk l = 2 * below (length l.self.now.stations.now) (parent_of l.self.now.stations.now) (depth_of l.self.now.stations.now) l.at
 
-abbrev pub invariant-branch_walk-loop-j : goal.invariant-branch_walk-loop-j
-invariant-branch_walk-loop-j l = StillGives l.self.stations.now l.at (length l.yielded + 1) l.walk.items l.initial.walk.items
+abbrev pub invariant-branch_walk-loop-k : goal.invariant-branch_walk-loop-k
+invariant-branch_walk-loop-k l = StillGives l.self.stations.now l.at (l.k + 1) l.walk.items l.initial.walk.items
