@@ -31,7 +31,11 @@ fn seek(earlier: &[Record], label: Label) -> Option<usize>
     ensures value { result ≡ seek label (labels_of earlier.now) }
     ensures inside { IfSome result (λ k. k < length earlier.now) }
 {
-    earlier.iter().position(|record| record.label == label)
+    // Keys are compared, which are one number each: equal keys are equal labels.
+    let sought = label.key();
+    earlier
+        .iter()
+        .position(|record| record.label.key() == sought)
 }
 
 // The place that a second half names: none in the first record, that of an earlier station in every other.
