@@ -1,12 +1,13 @@
 -- What holds of the records of a good file.
-use Rattle.std.proofs.Common.{◌≡◌, ℕ, ◌+◌, ◌<◌, ◌⊎◌, List, length, get_or, Ok, Err, Result, sym, ap, ◌∙◌, inl, inr, ⊎_elim, arith}
+use Rattle.std.proofs.Common.{◌≡◌, ℕ, ◌+◌, ◌<◌, ◌⊎◌, List, length, get_or, Some, Ok, Err, Result, sym, ap, ◌∙◌, inl, inr, ⊎_elim, arith}
 use Rattle.std.specs.Prelude.{IfOk}
-use Rattle.label.specs.Labels.{bytes_of}
+use Rattle.label.specs.Labels.{bytes_of, label_of}
 use Rattle.label.specs.declared.label.Label.{Label}
-use Rattle.label.proofs.Reading.{same_label_lem}
+use Rattle.label.proofs.Reading.{read_written, same_label_lem}
 use Rattle.tree.specs.Records.{Records, label_at}
 use Rattle.records.specs.Accepts.{Stands, Written, Accepted, Sound, FileHolds, FileJoins}
 use Rattle.records.specs.Files.{read_file}
+use Rattle.records.specs.Halves.{eight_at}
 use Rattle.records.specs.declared.fault.PlanFault.{PlanFault}
 use Rattle.records.proofs.Accepting.{read_good}
 
@@ -86,3 +87,7 @@ module _ (file ps : List ℕ) (rs : Records) (w : Written file ps rs) where
               g.1.2,
         ),
       )
+
+-- a label stands where it is read
+pub stands_read : (file : List ℕ) (p : ℕ) (a : Label) → Stands file p a → label_of (eight_at file p) ≡ Some a
+stands_read file p a e = ap label_of e ∙ read_written a

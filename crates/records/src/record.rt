@@ -8,7 +8,8 @@ ghost use Rattle.records.specs.Lists.{labels_of};
 use crate::fault::PlanFault;
 use label::Label;
 
-// A station, and the place of the earlier record whose station it is joined to; the first record is joined to none.
+// A station, and the place of the earlier record whose station it is joined to. The first record of a file is joined to none; of the
+// first in a list of records a join may be set, and counts for nothing.
 #[derive(Clone, Copy, Default)]
 pub struct Record {
     pub label: Label,
