@@ -93,8 +93,8 @@ row_label rs v s k r h e = sym (ap (λ (x : Records). label_at x.labels k) s.is)
 named_at : (rs : List Record) (k : ℕ) (d : Record) (o : Option ℕ) → Lawful rs → k < length rs → (get_or rs k d).joined ≡ o → JoinedBefore k o
 named_at rs k d o w h e = subst (JoinedBefore k) (ap (λ (x : Record). x.joined) (get_or_default rs k _ d h) ∙ e) (w.joined k h)
 
-pub before_is : (rs : List Record) (k : ℕ) (d : Record) (j : ℕ) → Lawful rs → k < length rs → (get_or rs k d).joined ≡ Some j → j < k
-before_is rs k d j w h e = named_at rs k d (Some j) w h e
+pub before_is : (rs : List Record) (k : ℕ) (d : Record) (j : ℕ) → Lawful rs → 0 < k → k < length rs → (get_or rs k d).joined ≡ Some j → j < k
+before_is rs k d j w some h e = named_at rs k d (Some j) w h e some
 
 -- the way to the first record -------------------------------------------------------------------
 

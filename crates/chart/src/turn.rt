@@ -18,6 +18,10 @@ fn reverse(records: &Records, root: u16) -> [Option<Link>; 1024]
     let mut link = Link { up: root, depth: 1 };
     links[here as usize] = Some(link);
     while let Some(below) = rows[here as usize].joined {
+        // Every record but the first is joined to an earlier one; a join of the first counts for nothing.
+        if here == 0 {
+            break;
+        }
         link = Link {
             up: here,
             depth: link.depth + 1,

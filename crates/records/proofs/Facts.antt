@@ -1,5 +1,5 @@
 -- What holds of the records of a good file.
-use Rattle.std.proofs.Common.{◌≡◌, ℕ, ◌+◌, ◌<◌, ◌⊎◌, List, length, get_or, Ok, Err, Result, sym, ap, ◌∙◌, inl, inr, ⊎_elim, arith}
+use Rattle.std.proofs.Common.{◌≡◌, ℕ, ◌+◌, ◌<◌, ◌⊎◌, List, length, get_or, Some, Ok, Err, Result, sym, ap, ◌∙◌, inl, inr, ⊎_elim, arith}
 use Rattle.std.specs.Prelude.{IfOk}
 use Rattle.label.specs.Labels.{bytes_of, label_of}
 use Rattle.label.specs.declared.label.Label.{Label}

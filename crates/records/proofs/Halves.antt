@@ -76,7 +76,7 @@ parent_before (Some m) ls o e = go (seek m ls) refl e
   where
     is : (j : ℕ) (o : Option ℕ) → j < length ls → o ≡ Some j → JoinedBefore (length ls) o
     is j None l q = cc
-    is j (Some i) l q = let same : i ≡ j = cc in omega arith
+    is j (Some i) l q = let same : i ≡ j = cc in λ some. omega arith
 
     go : (q : Option ℕ) → seek m ls ≡ q → option_map (λ k. Some k) q ≡ Some o → JoinedBefore (length ls) o
     go None f q = cc

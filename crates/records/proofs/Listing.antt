@@ -59,4 +59,4 @@ joined_earlier rs w k some l =
     go (Some j) e b =
         let n = length-map rs (λ (x : Record). join_of x.joined) in
         let at = get_or-map (λ (x : Record). join_of x.joined) rs k (record { label = zero_label; joined = None }) 0 (omega arith) in
-        omega (arith, ap join_of e)
+        omega (arith, ap join_of e, b some)

@@ -4,9 +4,11 @@ use Rattle.std.specs.List.{position_or_len, position_from}
 use lib.ListN.{length-map}
 use Rattle.std.proofs.lemmas.Iterator.Adapters.{position_from-zero}
 use Rattle.std.proofs.lemmas.Slice.Eq.{bytes_eq-Decides}
-use Rattle.std.proofs.lemmas.Bool.{cond-false, cond-true}
+use Rattle.std.proofs.lemmas.Bool.{cond-false, cond-true, eqb-true, eqb-false}
 use Rattle.label.specs.Labels.{bytes_of}
 use Rattle.label.specs.declared.label.Label.{Label}
+use Rattle.label.specs.Orders.{key_of}
+use Rattle.label.proofs.Keys.{same_key}
 use Rattle.label.proofs.Reading.{same_label_lem, same_bytes}
 use Rattle.tree.specs.Records.{label_at}
 use Rattle.records.specs.Files.{seek}
@@ -35,6 +37,16 @@ same_chain l m r e = go r (same_label l m) (same_bytes l m r e) (same_decides l 
     go true false f g = sym (g.1 (f.0 refl))
     go false true f g = f.1 (g.0 refl)
     go false false f g = refl
+
+-- the test that the code makes, by keys
+pub same_keys : (l m : Label) (a b : ℕ) (r : Bool) → a ≡ key_of l → b ≡ key_of m → r ≡ (a == b) → r ≡ same_label l m
+same_keys l m a b r ea eb e = go r e (same_label l m) (same_decides l m)
+  where
+    go : (r : Bool) → r ≡ (a == b) → (s : Bool) → Decides s (l ≡ m) → r ≡ s
+    go true q true d = refl
+    go true q false d = sym (d.1 (same_key l m (sym ea ∙ eqb-true a b (sym q) ∙ eb)))
+    go false q true d = absurd (eqb-false a b (sym q) (ea ∙ ap key_of (d.0 refl) ∙ sym eb))
+    go false q false d = refl
 
 -- a search among records is one among their labels
 pub seek_records : (label : Label) (rs : List Record) → position (λ r. same_label r.label label) rs ≡ seek label (labels_of rs)

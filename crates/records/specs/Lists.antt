@@ -24,10 +24,10 @@ records_of rs = record { labels = labels_of rs; joins = joins_of rs }
 abbrev pub joined_at : List Record → ℕ → Option ℕ
 joined_at rs k = (slice_index_or rs k (record { label = zero_label; joined = None })).joined
 
--- record k is joined to an earlier one; the first is joined to none
+-- record k is joined to an earlier one; the first needs no join, and any that it has is free
 abbrev pub JoinedBefore : ℕ → Option ℕ → Type 0
 JoinedBefore k None = k ≡ 0
-JoinedBefore k (Some j) = j < k
+JoinedBefore k (Some j) = 0 < k → j < k
 
 -- what holds of the records that a file can have: at most 1,024, with labels all different, and each but the first
 -- joined to an earlier one

@@ -36,7 +36,7 @@ impl Records {
         }
     }
 
-    // Appends a record with a new label that is joined to an earlier one, or to none where it is the first.
+    // Appends a record with a new label that is joined to an earlier one. The first needs no join, and any that it has is free.
     #[tactic(auto, using(crate::proofs::Listing::lawful_more))]
     pub fn push(&mut self, row: Record)
         requires room { length self.old.labels < 1024 }

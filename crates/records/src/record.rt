@@ -8,7 +8,8 @@ ghost use Rattle.records.specs.Lists.{labels_of};
 use crate::fault::PlanFault;
 use label::Label;
 
-// A station, and the place of the earlier record whose station it is joined to; the first record is joined to none.
+// A station, and the place of the earlier record whose station it is joined to. The first record of a file is joined to none; of the
+// first in a list of records a join may be set, and counts for nothing.
 #[derive(Clone, Copy, Default)]
 pub struct Record {
     pub label: Label,
@@ -31,7 +32,11 @@ fn seek(earlier: &[Record], label: Label) -> Option<usize>
     ensures value { result ≡ seek label (labels_of earlier.now) }
     ensures inside { IfSome result (λ k. k < length earlier.now) }
 {
-    earlier.iter().position(|record| record.label == label)
+    // Keys are compared, which are one number each: equal keys are equal labels.
+    let sought = label.key();
+    earlier
+        .iter()
+        .position(|record| record.label.key() == sought)
 }
 
 // The place that a second half names: none in the first record, that of an earlier station in every other.

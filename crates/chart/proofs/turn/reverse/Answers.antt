@@ -20,7 +20,7 @@ loop-here-preserved c =
     let i = c.loop-here.invariant in
     let n = says c.as_slice-rows.result.now c.args.records.now c.as_slice-rows.ensures.value c.as_slice-rows.ensures.lawful in
     let is = join_is c.as_slice-rows.result.now c.args.records.now n c.loop-here.here _ c.in-Some.below (omega arith) c.in-Some.is in
-    let before : c.in-Some.below < c.loop-here.here = before_is c.as_slice-rows.result.now c.loop-here.here _ c.in-Some.below c.as_slice-rows.ensures.lawful (omega arith) c.in-Some.is in
+    let before : c.in-Some.below < c.loop-here.here = before_is c.as_slice-rows.result.now c.loop-here.here _ c.in-Some.below c.as_slice-rows.ensures.lawful (omega arith) (omega arith) c.in-Some.is in
     record {
       long = length-set c.loop-here.links _ _ ∙ i.long;
       turned = turned_next c.args.records.now.joins c.args.root c.loop-here.links c.loop-here.here c.in-Some.below c.loop-here.link.depth _ (omega arith) i.long (omega arith) (omega arith) i.low is before i.at (omega arith) refl refl i.turned;
