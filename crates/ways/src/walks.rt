@@ -25,6 +25,7 @@ impl Cave<'_> {
         requires room { array_vec_len walk.old + length (tour_from self.now.stations.now at) ≤ 2047 }
         ensures { walk.new.items ≡ walk.old.items ++ tour_from self.now.stations.now at }
     {
+        // The root is its own parent, so it is left out. An index is below 1,024, so its cast loses nothing.
         for (k, station) in self.stations[1..].iter().enumerate() {
             if station.parent == at {
                 self.station_walk(k as u16 + 1, walk);
