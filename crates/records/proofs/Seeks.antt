@@ -26,7 +26,7 @@ same_not l m no' = go (same_label l m) (same_decides l m).0
     go true f = absurd (no' (f refl))
     go false f = refl
 
--- the test that the code makes, byte by byte
+-- the test of the derived `==`, byte by byte
 pub same_chain : (l m : Label) (r : Bool)
     → r ≡ (l.b0 == m.b0 && (l.b1 == m.b1 && (l.b2 == m.b2 && (l.b3 == m.b3 && (l.b4 == m.b4 && (l.b5 == m.b5 && (l.b6 == m.b6 && l.b7 == m.b7)))))))
     → r ≡ same_label l m

@@ -14,7 +14,7 @@ pub fn show_plan(rt: &HostRuntime, plan: &Plan) -> io::Result<()> {
     let root = plan.root();
     let height = plan.height();
     println!(rt; "root: {root}\nheight: {height}")?;
-    // The walk lies in a buffer of fixed size, so that all but its text is shown without a need of memory.
+    // The walk lies in a buffer of fixed size, so that only the lines of the walk, the last thing shown, need memory.
     let mut walk = [root; 2047];
     let count = plan.walk(&mut walk);
     show_tree(rt, plan, &walk[..count])?;

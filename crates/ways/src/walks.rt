@@ -1,4 +1,5 @@
-// The walk of a plan, as a list of indices.
+// The walk of a plan, as a list of indices: the list is filled with defaults before it is used, and labels would take four times
+// the room.
 ghost use Rattle.std.specs.Prelude.{◌≡◌, ◌+◌, ◌<◌, ◌≤◌, ◌++◌, length};
 ghost use Rattle.arrayvec.specs.ArrayVec.{array_vec_len};
 ghost use Rattle.tree.specs.Walks.{walk_from, tour_from};
@@ -25,7 +26,8 @@ impl Cave<'_> {
         requires room { array_vec_len walk.old + length (tour_from self.now.stations.now at) ≤ 2047 }
         ensures { walk.new.items ≡ walk.old.items ++ tour_from self.now.stations.now at }
     {
-        // The root is its own parent, so it is left out. An index is below 1,024, so its cast loses nothing.
+        // The root is its own parent, so it is left out: by a slice, since `skip` asks for each station by number. An index is below
+        // 1,024, so its cast loses nothing.
         for (k, station) in self.stations[1..].iter().enumerate() {
             if station.parent == at {
                 self.station_walk(k as u16 + 1, walk);
